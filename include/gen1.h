@@ -696,7 +696,8 @@ uint8_t gen1_action_odds_now(const gen1_battle *battle, uint8_t side, uint8_t mo
  * ways, and in `twice` of `twice_of`. All ways are equally likely.
  *
  * If the foe has a substitute, it is the chance to break the substitute. Both uses have the odds that gen1_odds_now returns, and
- * their damages add up; the second Super Fang halves the HP that are left. Nothing else that happens between the uses is
+ * their damages add up; the second Super Fang halves the HP that are left. A trapping move that hits goes on: the second use deals
+ * the same damage again, without a test; one that goes on already is taken to go on. Nothing else that happens between the uses is
  * counted: no residual damage, no change of a stat, no recharging, and no fainting of the user.
  */
 typedef struct gen1_chances {

@@ -14,9 +14,8 @@ use Rattle.gen1_odds.specs.declared.knock_outs.Chances.{Chances}
 use Rattle.gen1_odds.specs.declared.knock_outs.ThreeChances.{ThreeChances}
 use Rattle.gen1_odds.specs.declared.odds.Odds.{Odds}
 use Rattle.gen1_odds.specs.Acting.{action_odds_in}
-use Rattle.gen1_odds.specs.HitTests.{takes_hit_test}
 use Rattle.gen1_odds.specs.KnockOut.{chances_in, three_chances_in}
-use Rattle.gen1_odds.specs.Odds.{drained, odds_in, recoil}
+use Rattle.gen1_odds.specs.Odds.{drained, odds_in, recoil, takes_hit_test}
 use Rattle.gen1_c.specs.Battle.{teams_fault}
 use Rattle.gen1_c.specs.Teams.{fault_of_any, member_fault, sheet_of}
 use Rattle.gen1_c.specs.declared.teams.MemberForm.{MemberForm}

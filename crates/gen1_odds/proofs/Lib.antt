@@ -10,6 +10,5 @@ pub mod Gated
 -- A side effect, by its draw.
 pub mod Harmed
 pub mod Counted
--- The chances to knock out without the usual damage.
-pub mod FixedUses
-pub mod ThreeUses
+-- The chances of uses in a row.
+pub mod UsesInARow

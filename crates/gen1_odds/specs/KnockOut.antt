@@ -3,6 +3,7 @@
 -- factors and 8 cases of the number of hits.
 use Rattle.std.specs.Prelude.{Bool, List, None, Option, Some, get_or, if◌then◌else◌, max, min, not, replicate, suc, sum_by, zero, ℕ, ◌%◌, ◌&&◌, ◌*◌, ◌+◌, ◌-◌, ◌/◌, ◌<◌, ◌==◌, ◌≡◌, ◌≤◌}
 use Rattle.std.specs.List.{range_with_len}
+use Rattle.gen1_tables.specs.Effects.{traps}
 use Rattle.gen1_machine.specs.declared.side.Side.{Side}
 use Rattle.gen1_machine.specs.Moves.{super_fang, Move}
 use Rattle.gen1_machine.specs.Rules.{Rules}
@@ -84,6 +85,9 @@ abbrev pub changed : ℕ → HpChange → ℕ → ℕ
 changed most change zero = 0
 changed most change (suc left) = max (suc left) (min most (suc left + change.gained)) - change.lost
 
+abbrev pub no_change : HpChange
+no_change = record { gained = 0; lost = 0 }
+
 -- Ways from the damage that is needed before a change of the HP.
 abbrev pub after_change : ℕ → HpChange → (ℕ → ℕ) → ℕ → ℕ
 after_change most change next need = next (changed most change need)
@@ -93,6 +97,36 @@ two_uses after most change = after (after_change most change (after over))
 
 abbrev pub three_uses : ((ℕ → ℕ) → ℕ → ℕ) → ℕ → Between → ℕ → ℕ
 three_uses after most between = after (after_change most between.after_first (two_uses after most between.after_second))
+
+-- Trapping: a use that hits goes on. The next deals the same damage again, in each of its ways.
+
+-- Over the damages of a hit that may be critical, with what is then needed.
+abbrev pub after_each : Odds → (ℕ → ℕ → ℕ) → ℕ → ℕ
+after_each o next need =
+    mixed o.critical_draws
+    (sum_by (λ damage. next damage (need - damage)) o.critical.numbers)
+    (sum_by (λ damage. next damage (need - damage)) o.usual.numbers)
+
+-- What is needed after a change of the HP, and the same damage again.
+abbrev pub again : ℕ → HpChange → ℕ → ℕ → ℕ
+again most change damage need = changed most change need - damage
+
+abbrev pub two_trapping : Odds → ℕ → HpChange → ℕ → ℕ
+two_trapping o most change need =
+    mixed o.hit_draws
+    (8 * after_each o (λ damage left. 20447232 * over (again most change damage left)) need)
+    (79872 * after_usual Once o over (changed most change need))
+
+-- The third use goes on too with 5 chances of 8, and is otherwise a new one.
+abbrev pub third_trapping : Odds → ℕ → HpChange → ℕ → ℕ → ℕ
+third_trapping o most change damage need =
+    5 * (20447232 * over (again most change damage need)) + 3 * after_usual Once o over (changed most change need)
+
+abbrev pub three_trapping : Odds → ℕ → Between → ℕ → ℕ
+three_trapping o most between need =
+    mixed o.hit_draws
+    (after_each o (λ damage left. 20447232 * third_trapping o most between.after_second damage (again most between.after_first damage left)) need)
+    (79872 * two_trapping o most between.after_second (changed most between.after_first need))
 
 -- The whole
 
@@ -106,6 +140,12 @@ chances_of after ways need breaks = record {
   zeros = replicate 7 0;
 }
 
+-- Two uses of a trapping move in a row.
+abbrev pub usual_chances : Bool → HitCount → Odds → ℕ → ℕ → Chances
+usual_chances traps count o need breaks = record (chances_of (after_usual count o) 20447232 need breaks) {
+  twice = if traps then two_trapping o 0 no_change need else after_usual count o (after_usual count o over) need;
+}
+
 -- Super Fang doesn't halve a substitute.
 abbrev pub halves_in : Side → Move → Field → Bool
 halves_in s move f = move.number == super_fang && not (has_substitute_in (other s) f)
@@ -113,7 +153,7 @@ halves_in s move f = move.number == super_fang && not (has_substitute_in (other 
 abbrev pub chances_in : Rules → Side → Move → Field → Chances
 chances_in r s move f =
     if deals_usual s move f
-    then chances_of (after_usual (hit_count move.effect) (odds_in r s move f)) 20447232 (needed_in (other s) f) (flag (has_substitute_in (other s) f))
+    then usual_chances (traps move.effect) (hit_count move.effect) (odds_in r s move f) (needed_in (other s) f) (flag (has_substitute_in (other s) f))
     else chances_of (after_fixed (halves_in s move f) (odds_in r s move f)) (256 * fixed_ways (odds_in r s move f))
     (needed_in (other s) f) (flag (has_substitute_in (other s) f))
 
@@ -133,6 +173,17 @@ three_of after ways target = record {
   zeros = replicate 7 0;
 }
 
+abbrev pub usual_three : Bool → HitCount → Odds → Target → ThreeChances
+usual_three traps count o target = record (three_of (after_usual count o) 20447232 target) {
+  twice =
+      if traps then two_trapping o target.most target.between.after_first target.need
+      else two_uses (after_usual count o) target.most target.between.after_first target.need;
+  thrice = in_words (
+      if traps then three_trapping o target.most target.between target.need
+      else three_uses (after_usual count o) target.most target.between target.need
+      );
+}
+
 -- Of any bytes, valid or not: a flag, and zeros after it. The ways of two uses are those of one, twice over.
 
 pub record AreChances (c : Chances) : Type 0 where
@@ -145,9 +196,6 @@ pub record AreThree (c : ThreeChances) : Type 0 where
   pub cube : c.thrice_of ≡ in_words (c.once_of * c.once_of * c.once_of)
   pub flag : c.breaks_substitute ≤ 1
   pub zeros : c.zeros ≡ replicate 7 0
-
-abbrev pub no_change : HpChange
-no_change = record { gained = 0; lost = 0 }
 
 -- Nothing changes the HP of a substitute between uses.
 abbrev pub between_in : Side → Between → Field → Between
@@ -165,7 +213,7 @@ abbrev pub three_chances_in : Between → Rules → Side → Move → Field → 
 three_chances_in between r s move f =
     let o = odds_in r s move f in
     let target = target_in (other s) between f in
-    if deals_usual s move f then three_of (after_usual (hit_count move.effect) o) 20447232 target
+    if deals_usual s move f then usual_three (traps move.effect) (hit_count move.effect) o target
     else three_of (after_fixed (halves_in s move f) o) (256 * fixed_ways o) target
 
 -- What the code knows of one use

@@ -10,7 +10,5 @@ pub mod KnockOut
 pub mod SideEffects
 -- Which draws let a member act, and make its move hit or hold the foe.
 pub mod Acting
--- Which moves take the hit test.
-pub mod HitTests
 -- What the odds say of the machine's own phases.
 pub mod Laws

@@ -24,7 +24,6 @@ use Rattle.gen1_odds.specs.declared.odds.Odds.{Odds}
 use Rattle.gen1_odds.specs.declared.reasons.Reason.{Reason}
 use Rattle.gen1_odds.specs.declared.trials.Trial.{Trial}
 use Rattle.gen1_odds.specs.declared.trials.Trial.TheVariants as trials
-use Rattle.gen1_odds.specs.HitTests.{takes_hit_test}
 use Rattle.gen1_odds.specs.Reasons.{reason_code, reason_in}
 use Rattle.gen1_odds.specs.Trials.{base_in, charges_first, released_in, traps_on_in, trial_of}
 
@@ -73,6 +72,27 @@ fixed_of _ move s f = (0, 0)
 
 abbrev pub fixed_in : Side → Move → Field → ℕ × ℕ
 fixed_in s move f = if traps_on_in s move f then twin f.last_damage else fixed_of (trial_of move.effect) move.number s f
+
+-- Which moves take the hit test
+
+-- Moves that fail, or that affect only their user.
+abbrev pub acts_untested : Effect → Bool
+acts_untested effects.AlwaysFails = true
+acts_untested effects.Bide = true
+acts_untested effects.Conversion = true
+acts_untested effects.FocusEnergy = true
+acts_untested effects.Haze = true
+acts_untested effects.Heal = true
+acts_untested effects.LeftOut = true
+acts_untested effects.Mist = true
+acts_untested effects.Screen = true
+acts_untested effects.Splash = true
+acts_untested (effects.StatUp stat stages) = true
+acts_untested effects.Substitute = true
+acts_untested _ = false
+
+abbrev pub takes_hit_test : Move → Bool
+takes_hit_test move = not (acts_untested move.effect)
 
 -- Draws
 

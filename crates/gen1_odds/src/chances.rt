@@ -2,8 +2,7 @@
 //! (docs/MECHANICS.md, "Critical hits", "Hit test").
 ghost use Rattle.std.specs.Prelude.{◌≡◌, ◌≤◌};
 ghost use Rattle.gen1_layout.specs.Words.{Reads, move_at};
-ghost use Rattle.gen1_odds.specs.HitTests.{acts_untested, takes_hit_test};
-ghost use Rattle.gen1_odds.specs.Odds.{critical_draws, deals_usual, draws_by, how_many, is_sleep, is_tested, passes, skips_test};
+ghost use Rattle.gen1_odds.specs.Odds.{acts_untested, critical_draws, deals_usual, draws_by, how_many, is_sleep, is_tested, passes, skips_test, takes_hit_test};
 
 use crate::reasons::Reason;
 use crate::sights::is_recharging;

@@ -1,7 +1,10 @@
 //! The chance that one use of a move knocks out the foe, or two or three in a row (docs/MECHANICS.md, "Landing", "Many hits").
-ghost use Rattle.std.specs.Prelude.{max, min, ◌*◌, ◌+◌, ◌≡◌, ◌≤◌};
+ghost use Rattle.std.specs.Prelude.{false, if◌then◌else◌, max, min, true, ◌*◌, ◌+◌, ◌≡◌, ◌≤◌};
 ghost use Rattle.gen1_layout.specs.Words.{Reads, move_at, ℕ};
-ghost use Rattle.gen1_odds.specs.KnockOut.{AreChances, AreThree, after_fixed, after_usual, between_in, chances_in, chances_of, fixed_ways, halves_in, needed_in, three_chances_in, three_of};
+ghost use Rattle.gen1_odds.specs.KnockOut.{AreChances, AreThree, after_fixed, after_usual, between_in, chances_in, chances_of, fixed_ways, halves_in, needed_in, no_change, over, three_chances_in, three_of, two_trapping, usual_chances, usual_three};
+ghost use Rattle.gen1_odds.specs.declared.hit_counts.HitCount.TheVariants.{Once};
+ghost use Rattle.gen1_odds.specs.Odds.{hit_count};
+ghost use Rattle.gen1_tables.specs.Effects.{traps};
 ghost use Rattle.gen1_odds.specs.Trials.{ReadsUnder};
 
 use crate::chances::deals_usual;
@@ -11,11 +14,12 @@ use crate::fixed_uses::{
 use crate::hit_counts::{HitCount, hit_count};
 use crate::odds::{Odds, flag, odds_of};
 use crate::sights::has_substitute;
+use crate::trapping_uses::{thrice_trapping, twice_trapping};
 use crate::usual_uses::{Usual, WAYS, known_once, once, thrice, twice};
 use crate::ways::{HpChange, NO_CHANGE, Wide, cube, in_words};
 use gen1_layout::Packed;
 use gen1_machine::Side;
-use gen1_tables::MoveId;
+use gen1_tables::{Effect, MoveId};
 
 const SUPER_FANG: u8 = 162;
 
@@ -82,7 +86,8 @@ struct Target {
 ///
 /// Against a substitute it is the chance to break it. Both uses have the odds of `odds_of`, as the battle is now, and
 /// their damages add up: what else happens in between, such as residual damage, does not count. The second use of Super
-/// Fang halves the HP that are left.
+/// Fang halves the HP that are left. A trapping move that hits deals the same damage again in the second use, and one that
+/// goes on already is taken to go on.
 pub fn knock_out(battle: &Packed, side: Side, id: MoveId) -> Chances
     ensures stands { ReadsUnder battle.now result λ r. chances_in r side (move_at id) }
     // For any bytes, valid or not.
@@ -92,7 +97,7 @@ pub fn knock_out(battle: &Packed, side: Side, id: MoveId) -> Chances
     let need = needed(battle, side.other());
     let breaks = flag(has_substitute(battle, side.other()));
     if deals_usual(battle, side, id) {
-        return usual_chances(&odds, hit_count(id.effect()), need, breaks);
+        return usual_chances(&odds, id.effect(), need, breaks);
     }
     fixed_chances(&odds, halves(battle, side, id), need, breaks)
 }
@@ -101,8 +106,8 @@ pub fn knock_out(battle: &Packed, side: Side, id: MoveId) -> Chances
 ///
 /// Each use has the odds of `odds_of`, as the battle is now. Between two uses the HP of the foe change as `between` says:
 /// of a foe that has any, they first rise, to its maximum at most, and then fall. The third use of Super Fang halves what
-/// is left then. Against a substitute it is the chance to break it, and `between` does not count. Nothing else that
-/// happens between the uses counts.
+/// is left then, and a trapping move goes on as often as its draws let it. Against a substitute it is the chance to break
+/// it, and `between` does not count. Nothing else that happens between the uses counts.
 pub fn knock_out_in_three(
     battle: &Packed,
     side: Side,
@@ -121,7 +126,7 @@ pub fn knock_out_in_three(
         breaks_substitute: flag(has_substitute(battle, side.other())),
     };
     if deals_usual(battle, side, id) {
-        return usual_three(&odds, hit_count(id.effect()), &target);
+        return usual_three(&odds, id.effect(), &target);
     }
     fixed_three(&odds, halves(battle, side, id), &target)
 }
@@ -159,12 +164,32 @@ fn halves(battle: &Packed, side: Side, id: MoveId) -> bool
 
 // The usual damage
 
-#[tactic(auto, using(crate::proofs::Sums::known_none))]
-fn usual_chances(odds: &Odds, count: HitCount, need: u16, breaks_substitute: u8) -> Chances
+fn usual_chances(odds: &Odds, effect: Effect, need: u16, breaks_substitute: u8) -> Chances
     requires critical { odds.now.critical_draws ≤ 255 }
     requires hits { odds.now.hit_draws ≤ 256 }
-    ensures { result ≡ chances_of (after_usual count odds.now) 20447232 need breaks_substitute }
+    ensures { result ≡ usual_chances (traps effect) (hit_count effect) odds.now need breaks_substitute }
 {
+    let count = hit_count(effect);
+    Chances {
+        once: once(odds, count, need),
+        once_of: WAYS,
+        twice: usual_twice(odds, effect.traps(), count, need),
+        twice_of: WAYS * WAYS,
+        breaks_substitute,
+        zeros: [0; 7],
+    }
+}
+
+#[tactic(auto, using(crate::proofs::Sums::known_none))]
+fn usual_twice(odds: &Odds, traps: bool, count: HitCount, need: u16) -> u64
+    requires critical { odds.now.critical_draws ≤ 255 }
+    requires hits { odds.now.hit_draws ≤ 256 }
+    ensures { result ≡ (if traps then two_trapping odds.now 0 no_change need
+        else after_usual count odds.now (after_usual count odds.now over) need) }
+{
+    if traps {
+        return twice_trapping(odds, 0, NO_CHANGE, need);
+    }
     let uses = Usual {
         odds: *odds,
         count,
@@ -172,20 +197,25 @@ fn usual_chances(odds: &Odds, count: HitCount, need: u16, breaks_substitute: u8)
         known: [0; 1000],
         filled: 0,
     };
-    Chances {
-        once: once(odds, count, need),
-        once_of: WAYS,
-        twice: twice(&uses, NO_CHANGE, need),
-        twice_of: WAYS * WAYS,
-        breaks_substitute,
-        zeros: [0; 7],
-    }
+    twice(&uses, NO_CHANGE, need)
 }
 
-fn usual_three(odds: &Odds, count: HitCount, target: &Target) -> ThreeChances
+fn usual_three(odds: &Odds, effect: Effect, target: &Target) -> ThreeChances
     requires critical { odds.now.critical_draws ≤ 255 }
     requires hits { odds.now.hit_draws ≤ 256 }
-    ensures { result ≡ three_of (after_usual count odds.now) 20447232 target.now }
+    ensures { result ≡ usual_three (traps effect) (hit_count effect) odds.now target.now }
+{
+    if effect.traps() {
+        return trapping_three(odds, target);
+    }
+    three_alike(odds, hit_count(effect), target)
+}
+
+// Three uses of which each has the same odds.
+fn three_alike(odds: &Odds, count: HitCount, target: &Target) -> ThreeChances
+    requires critical { odds.now.critical_draws ≤ 255 }
+    requires hits { odds.now.hit_draws ≤ 256 }
+    ensures { result ≡ usual_three false count odds.now target.now }
 {
     let filled = room(target.need.max(target.most));
     let uses = Usual {
@@ -201,6 +231,24 @@ fn usual_three(odds: &Odds, count: HitCount, target: &Target) -> ThreeChances
         twice: twice(&uses, target.between.after_first, target.need),
         twice_of: WAYS * WAYS,
         thrice: in_words(thrice(&uses, &target.between, target.need)),
+        thrice_of: in_words(cube(WAYS)),
+        breaks_substitute: target.breaks_substitute,
+        zeros: [0; 7],
+    }
+}
+
+fn trapping_three(odds: &Odds, target: &Target) -> ThreeChances
+    requires critical { odds.now.critical_draws ≤ 255 }
+    requires hits { odds.now.hit_draws ≤ 256 }
+    ensures { result ≡ usual_three true Once odds.now target.now }
+{
+    let between = &target.between;
+    ThreeChances {
+        once: once(odds, HitCount::Once, target.need),
+        once_of: WAYS,
+        twice: twice_trapping(odds, target.most, between.after_first, target.need),
+        twice_of: WAYS * WAYS,
+        thrice: in_words(thrice_trapping(odds, target.most, between, target.need)),
         thrice_of: in_words(cube(WAYS)),
         breaks_substitute: target.breaks_substitute,
         zeros: [0; 7],

@@ -4,6 +4,7 @@
 //! - `odds`: [`Odds`] of a move, for the two members that are out
 //! - `knock_outs`: the chances that one to three uses knock out the foe
 //! - `usual_uses`: in how many ways they do so with the usual damage
+//! - `trapping_uses`: the same of trapping, which goes on
 //! - `fixed_uses`: the same with a damage rule of their own
 //! - `ways`: numbers of ways, and the HP that are left between uses
 //! - `reasons`: why a use can't hit
@@ -34,6 +35,7 @@ mod reasons;
 mod side_effects;
 mod sights;
 mod status_reasons;
+mod trapping_uses;
 mod trials;
 mod usual_uses;
 mod ways;

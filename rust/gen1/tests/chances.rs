@@ -1,9 +1,9 @@
 //! Exact chances of a use, each draw tried, and exact outcomes of an update: worked out from docs/MECHANICS.md, "Critical hits" and "Hit
 //! test", and both forms of outcomes against each other.
 use gen1::{
-    Battle, CantReason, Chance, Choice, Conditions, DamageRefusal, DrawnFrom, Effect, Event, Kind,
-    MoveId, NotProbability, OddsReason, OutcomeOptions, OutcomesFault, Place, Refusal, Request,
-    Side, Stat, Successor, Team, UsedMove, Volatile, Way, Who, member, random_team,
+    Battle, Between, CantReason, Chance, Choice, Conditions, DamageRefusal, DrawnFrom, Effect,
+    Event, Kind, MoveId, NotProbability, OddsReason, OutcomeOptions, OutcomesFault, Place, Refusal,
+    Request, Side, Stat, Successor, Team, UsedMove, Volatile, Way, Who, member, random_team,
     seed_from_number,
 };
 
@@ -573,4 +573,59 @@ fn the_odds_of_an_action_are_those_of_its_ways() {
         acts >= 300 && hits >= 250 && harms >= 40 && holds >= 8,
         "{counts:?}"
     );
+}
+
+/// The probability that the foe falls in so many updates, of the first choice of each side.
+#[cfg(feature = "alloc")]
+fn felled(battle: &Battle, updates: u8) -> (u128, u128) {
+    if battle.state().sides[1].member_out().unwrap().hp == 0 {
+        return (1, 1);
+    }
+    if updates == 0 {
+        return (0, 1);
+    }
+    let [one, two] = [Side::One, Side::Two].map(|side| battle.choices(side)[0]);
+    let list = battle.outcomes(one, two).unwrap();
+    sum(list.successors().iter().map(|it| {
+        let (num, whole) = felled(&it.battle(), updates - 1);
+        let by = divisor(it.weight(), list.whole());
+        let [weight, all] = [it.weight(), list.whole()].map(|it| it / by);
+        Chance {
+            num: weight * num,
+            whole: all * whole,
+        }
+    }))
+}
+
+/// A trapping move that hits goes on: it deals its damage again, once to four times.
+#[cfg(feature = "alloc")]
+#[test]
+fn uses_of_a_trapping_move_in_a_row() {
+    let whole = |it: (u128, u128)| it.0 as f64 / it.1 as f64;
+    for (user, id, foe, hp) in [
+        ("Dragonite", "Wrap", "Snorlax", [30, 41, 62, 95]),
+        ("Rapidash", "Fire Spin", "Starmie", [5, 12, 20, 33]),
+        ("Cloyster", "Clamp", "Rhydon", [90, 250, 330, 363]),
+        ("Tauros", "Bind", "Gengar", [1, 20, 100, 323]),
+    ] {
+        for hp in hp {
+            let battle = facing((user, id), (foe, "Splash"))
+                .with_hp(Side::Two, Place::new(1).unwrap(), hp)
+                .unwrap();
+            let id = id.parse().unwrap();
+            let two = battle.knock_out(Side::One, id).unwrap();
+            let three = battle
+                .knock_out_in_three(Side::One, id, &Between::default())
+                .unwrap();
+            let [once, twice, thrice] = [1, 2, 3].map(|updates| felled(&battle, updates));
+            let equal = |num: u128, of: u128, due: (u128, u128)| {
+                let by = divisor(num, of);
+                assert_eq!((num / by, of / by), due, "{id} at {hp}: {}", whole(due));
+            };
+            equal(two.once.into(), two.once_of.into(), once);
+            equal(two.twice.into(), two.twice_of.into(), twice);
+            equal(three.twice.into(), three.twice_of.into(), twice);
+            equal(three.thrice, three.thrice_of, thrice);
+        }
+    }
 }

@@ -5,6 +5,7 @@
 //! - `odds`: [`Odds`] of a move, for the two members that are out
 //! - `knock_outs`: the chances that one to three uses knock out the foe
 //! - `usual_uses`: in how many ways they do so with the usual damage
+//! - `trapping_uses`: the same of trapping, which goes on
 //! - `fixed_uses`: the same with a damage rule of their own
 //! - `ways`: numbers of ways, and the HP that are left between uses
 //! - `reasons`: why a use can't hit
@@ -682,11 +683,12 @@ mod knock_outs {
     use crate::generated::odds::hit_counts::{HitCount, hit_count};
     use crate::generated::odds::odds::{Odds, flag, odds_of};
     use crate::generated::odds::sights::has_substitute;
+    use crate::generated::odds::trapping_uses::{thrice_trapping, twice_trapping};
     use crate::generated::odds::usual_uses::{Usual, WAYS, known_once, once, thrice, twice};
     use crate::generated::odds::ways::{HpChange, NO_CHANGE, Wide, cube, in_words};
     use crate::generated::layout::Packed;
     use crate::generated::machine::Side;
-    use crate::generated::tables::MoveId;
+    use crate::generated::tables::{Effect, MoveId};
 
     const SUPER_FANG: u8 = 162;
 
@@ -752,13 +754,14 @@ mod knock_outs {
     ///
     /// Against a substitute it is the chance to break it. Both uses have the odds of `odds_of`, as the battle is now, and
     /// their damages add up: what else happens in between, such as residual damage, does not count. The second use of Super
-    /// Fang halves the HP that are left.
+    /// Fang halves the HP that are left. A trapping move that hits deals the same damage again in the second use, and one that
+    /// goes on already is taken to go on.
     pub fn knock_out(battle: &Packed, side: Side, id: MoveId) -> Chances {
         let odds = odds_of(battle, side, id);
         let need = needed(battle, side.other());
         let breaks = flag(has_substitute(battle, side.other()));
         if deals_usual(battle, side, id) {
-            return usual_chances(&odds, hit_count(id.effect()), need, breaks);
+            return usual_chances(&odds, id.effect(), need, breaks);
         }
         fixed_chances(&odds, halves(battle, side, id), need, breaks)
     }
@@ -767,8 +770,8 @@ mod knock_outs {
     ///
     /// Each use has the odds of `odds_of`, as the battle is now. Between two uses the HP of the foe change as `between` says:
     /// of a foe that has any, they first rise, to its maximum at most, and then fall. The third use of Super Fang halves what
-    /// is left then. Against a substitute it is the chance to break it, and `between` does not count. Nothing else that
-    /// happens between the uses counts.
+    /// is left then, and a trapping move goes on as often as its draws let it. Against a substitute it is the chance to break
+    /// it, and `between` does not count. Nothing else that happens between the uses counts.
     pub fn knock_out_in_three(
         battle: &Packed,
         side: Side,
@@ -783,7 +786,7 @@ mod knock_outs {
             breaks_substitute: flag(has_substitute(battle, side.other())),
         };
         if deals_usual(battle, side, id) {
-            return usual_three(&odds, hit_count(id.effect()), &target);
+            return usual_three(&odds, id.effect(), &target);
         }
         fixed_three(&odds, halves(battle, side, id), &target)
     }
@@ -814,7 +817,22 @@ mod knock_outs {
     }
 
     // The usual damage
-    fn usual_chances(odds: &Odds, count: HitCount, need: u16, breaks_substitute: u8) -> Chances {
+    fn usual_chances(odds: &Odds, effect: Effect, need: u16, breaks_substitute: u8) -> Chances {
+        let count = hit_count(effect);
+        Chances {
+            once: once(odds, count, need),
+            once_of: WAYS,
+            twice: usual_twice(odds, effect.traps(), count, need),
+            twice_of: WAYS * WAYS,
+            breaks_substitute,
+            zeros: [0; 7],
+        }
+    }
+
+    fn usual_twice(odds: &Odds, traps: bool, count: HitCount, need: u16) -> u64 {
+        if traps {
+            return twice_trapping(odds, 0, NO_CHANGE, need);
+        }
         let uses = Usual {
             odds: *odds,
             count,
@@ -822,17 +840,18 @@ mod knock_outs {
             known: [0; 1000],
             filled: 0,
         };
-        Chances {
-            once: once(odds, count, need),
-            once_of: WAYS,
-            twice: twice(&uses, NO_CHANGE, need),
-            twice_of: WAYS * WAYS,
-            breaks_substitute,
-            zeros: [0; 7],
-        }
+        twice(&uses, NO_CHANGE, need)
     }
 
-    fn usual_three(odds: &Odds, count: HitCount, target: &Target) -> ThreeChances {
+    fn usual_three(odds: &Odds, effect: Effect, target: &Target) -> ThreeChances {
+        if effect.traps() {
+            return trapping_three(odds, target);
+        }
+        three_alike(odds, hit_count(effect), target)
+    }
+
+    // Three uses of which each has the same odds.
+    fn three_alike(odds: &Odds, count: HitCount, target: &Target) -> ThreeChances {
         let filled = room(target.need.max(target.most));
         let uses = Usual {
             odds: *odds,
@@ -847,6 +866,20 @@ mod knock_outs {
             twice: twice(&uses, target.between.after_first, target.need),
             twice_of: WAYS * WAYS,
             thrice: in_words(thrice(&uses, &target.between, target.need)),
+            thrice_of: in_words(cube(WAYS)),
+            breaks_substitute: target.breaks_substitute,
+            zeros: [0; 7],
+        }
+    }
+
+    fn trapping_three(odds: &Odds, target: &Target) -> ThreeChances {
+        let between = &target.between;
+        ThreeChances {
+            once: once(odds, HitCount::Once, target.need),
+            once_of: WAYS,
+            twice: twice_trapping(odds, target.most, between.after_first, target.need),
+            twice_of: WAYS * WAYS,
+            thrice: in_words(thrice_trapping(odds, target.most, between, target.need)),
             thrice_of: in_words(cube(WAYS)),
             breaks_substitute: target.breaks_substitute,
             zeros: [0; 7],
@@ -1591,6 +1624,79 @@ mod status_reasons {
         } else {
             None
         }
+    }
+}
+
+mod trapping_uses {
+    //! In how many ways two or three uses of a trapping move take the HP that are needed ([docs/MECHANICS.md, "Going on"](https://hibsuloy.example/gen1/blob/main/docs/MECHANICS.md#going-on)). A use
+    //! that hits goes on: the next deals the same damage again.
+
+    use crate::generated::odds::hit_counts::HitCount;
+    use crate::generated::odds::knock_outs::Between;
+    use crate::generated::odds::odds::Odds;
+    use crate::generated::odds::usual_uses::{WAYS, once};
+    use crate::generated::odds::ways::{HpChange, changed, mixed, mixed_wide, over};
+
+    // What is needed after a change of the HP, and the same damage again.
+    fn again(most: u16, change: HpChange, damage: u16, need: u16) -> u16 {
+        changed(most, change, need).saturating_sub(damage)
+    }
+
+    // Two uses
+    pub(crate) fn twice_trapping(odds: &Odds, most: u16, change: HpChange, need: u16) -> u64 {
+        let hit = 8 * twice_either(odds, most, change, need);
+        let missed = once(odds, HitCount::Once, changed(most, change, need));
+        mixed(odds.hit_draws, hit, 79872 * missed)
+    }
+
+    fn twice_either(odds: &Odds, most: u16, change: HpChange, need: u16) -> u64 {
+        let critical = twice_hits(&odds.critical.numbers, most, change, need);
+        let usual = twice_hits(&odds.usual.numbers, most, change, need);
+        mixed(odds.critical_draws, critical, usual)
+    }
+
+    fn twice_hits(list: &[u16; 39], most: u16, change: HpChange, need: u16) -> u64 {
+        let mut ways: u64 = 0;
+        for damage in list {
+            let left = again(most, change, *damage, need.saturating_sub(*damage));
+            ways += WAYS * over(left);
+        }
+        ways
+    }
+
+    // Three uses
+    pub(crate) fn thrice_trapping(odds: &Odds, most: u16, between: &Between, need: u16) -> u128 {
+        let hit = thrice_either(odds, most, between, need);
+        let left = changed(most, between.after_first, need);
+        let missed = twice_trapping(odds, most, between.after_second, left);
+        mixed_wide(odds.hit_draws, hit, 79872 * u128::from(missed))
+    }
+
+    fn thrice_either(odds: &Odds, most: u16, between: &Between, need: u16) -> u128 {
+        let critical = thrice_hits(odds, &odds.critical.numbers, most, between, need);
+        let usual = thrice_hits(odds, &odds.usual.numbers, most, between, need);
+        mixed_wide(odds.critical_draws, u128::from(critical), u128::from(usual))
+    }
+
+    fn thrice_hits(odds: &Odds, list: &[u16; 39], most: u16, between: &Between, need: u16) -> u64 {
+        let mut ways: u64 = 0;
+        for damage in list {
+            let left = again(
+                most,
+                between.after_first,
+                *damage,
+                need.saturating_sub(*damage),
+            );
+            ways += WAYS * third(odds, most, between.after_second, *damage, left);
+        }
+        ways
+    }
+
+    // The third use goes on too with 5 chances of 8, and is otherwise a new one.
+    fn third(odds: &Odds, most: u16, change: HpChange, damage: u16, need: u16) -> u64 {
+        let goes_on = 5 * (WAYS * over(again(most, change, damage, need)));
+        let is_new = 3 * once(odds, HitCount::Once, changed(most, change, need));
+        goes_on + is_new
     }
 }
 

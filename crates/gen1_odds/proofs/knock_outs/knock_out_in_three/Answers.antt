@@ -4,9 +4,9 @@ use Rattle.gen1_machine.specs.Sides.{other}
 use Rattle.gen1_machine.specs.State.{member_in}
 use Rattle.gen1_layout.specs.Words.{move_at}
 use Rattle.gen1_odds.specs.KnockOut.{AreThree, between_in, needed_in}
-use Rattle.gen1_odds.specs.Odds.{flag, hit_count}
+use Rattle.gen1_odds.specs.Odds.{flag}
 use Rattle.gen1_odds.specs.Trials.{has_substitute_in}
-use Rattle.gen1_odds.proofs.ThreeUses.{fixed_is, target_is, usual_is}
+use Rattle.gen1_odds.proofs.UsesInARow.{target_is, three_fixed_is, three_usual_is}
 use Rattle.gen1_odds.proofs.knock_outs.knock_out_in_three.Goals as goal
 
 pub returns-then-deals_usual-clause-stands : goal.returns-then-deals_usual-clause-stands
@@ -14,9 +14,8 @@ returns-then-deals_usual-clause-stands c g f h =
     let s = c.args.side in
     let between = c.args.between.now in
     let deals = sym (c.deals_usual.ensures.stands g f h) ∙ c.if-deals_usual.true in
-    let hits = c.hit_count.ensures ∙ ap hit_count c.effect.ensures in
     c.usual_three.ensures
-    ∙ usual_is between g.terms.rules s (move_at c.args.id) f _ _ _ deals hits (c.odds_of-odds.ensures.stands g f h)
+    ∙ three_usual_is between g.terms.rules s (move_at c.args.id) f _ _ _ deals c.effect.ensures (c.odds_of-odds.ensures.stands g f h)
     (target_is (other s) between f _ _ _ _
     (c.needed.ensures.stands g f h ∙ ap (λ (t : Side). needed_in t f) c.other.ensures)
     (c.max_hp.ensures.stands g f h ∙ ap (λ (t : Side). (member_in t f).max) c.other-2.ensures)
@@ -29,7 +28,7 @@ returns-clause-stands c g f h =
     let between = c.args.between.now in
     let unusual = sym (c.deals_usual.ensures.stands g f h) ∙ c.if-deals_usual.false in
     c.fixed_three.ensures
-    ∙ fixed_is between g.terms.rules s (move_at c.args.id) f _ _ _ unusual (c.odds_of-odds.ensures.stands g f h) (c.halves.ensures.stands g f h)
+    ∙ three_fixed_is between g.terms.rules s (move_at c.args.id) f _ _ _ unusual (c.odds_of-odds.ensures.stands g f h) (c.halves.ensures.stands g f h)
     (target_is (other s) between f _ _ _ _
     (c.needed.ensures.stands g f h ∙ ap (λ (t : Side). needed_in t f) c.other.ensures)
     (c.max_hp.ensures.stands g f h ∙ ap (λ (t : Side). (member_in t f).max) c.other-2.ensures)
