@@ -32,14 +32,10 @@ pub mod RandomSteps
 pub mod TeamText
 -- Random teams, and the sample teams.
 pub mod RandomTeams
--- Names, and rows of the tables.
+-- Names, rows of the tables, and a member's stats.
 pub mod Names
 -- The numbers of effects.
 pub mod Effects
--- The type chart.
-pub mod Chart
--- A member's stats.
-pub mod MemberStats
 -- Codes in words.
 pub mod Texts
 -- The field of a state that is wrong.

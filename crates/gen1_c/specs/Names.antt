@@ -1,14 +1,20 @@
--- Names of species, moves and types, and their rows of the tables (include/gen1.h, "naming"; docs/TABLES.md).
-use Rattle.std.specs.Prelude.{Err, List, Ok, Result, [], codes, if◌then◌else◌, map, nat_le, ok_or, ℕ, ◌&&◌, ◌*◌, ◌/◌, ◌≡◌, ◌∷◌}
+-- Names of species, moves and types, and their rows of the tables; and a member's stats (include/gen1.h, "naming"; docs/TABLES.md).
+use Rattle.std.specs.Prelude.{Err, List, Ok, Result, [], codes, if◌then◌else◌, map, nat_le, ok_or, ℕ, ◌&&◌, ◌*◌, ◌/◌, ◌≡◌, ◌∷◌, slice_index_or, ◌%◌, ◌==◌}
 use Rattle.std.specs.List.{slice_get}
 use Rattle.gen1_tables.specs.Moves.{move_row}
 use Rattle.gen1_tables.specs.Names.{move_name, species_name}
 use Rattle.gen1_tables.specs.Species.{base_of, species_row, types_of}
-use Rattle.gen1_tables.specs.Types.{number_of}
+use Rattle.gen1_tables.specs.Types.{number_of, rows_against, tenths_of}
 use Rattle.gen1_machine.specs.Moves.{is_often_critical}
 use Rattle.gen1_c.specs.Effects.{effect_number, priority_of}
 use Rattle.gen1_c.specs.declared.names.BaseForm.{BaseForm}
 use Rattle.gen1_c.specs.declared.names.MoveForm.{MoveForm}
+use Rattle.gen1_layout.specs.Decoding.{element_of}
+use Rattle.gen1_stats.specs.Members.{Member, nobody}
+use Rattle.gen1_stats.specs.Teams.{team_of}
+use Rattle.gen1_c.specs.Odds.{one_fault}
+use Rattle.gen1_c.specs.Teams.{sheet_of}
+use Rattle.gen1_c.specs.declared.teams.MemberForm.{MemberForm}
 
 -- the value for a number from 1 up to the last; the code 42 for any other
 abbrev pub numbered : {A : Type 0} → ℕ → ℕ → A → Result A ℕ
@@ -57,3 +63,20 @@ move_due number = numbered 165 number (row_of_move number)
 abbrev pub Tells : {A : Type 0} → Result A ℕ → A → A → ℕ → Type 0
 Tells (Ok row) old new code = (code ≡ 0) × (new ≡ row)
 Tells (Err why) old new code = (code ≡ why) × (new ≡ old)
+
+-- The type chart
+
+-- the factor of the row of two types in tenths, or 10 if there is none; the code 42 if one of the numbers is not a type
+abbrev pub effectiveness_due : ℕ → ℕ → Result ℕ ℕ
+effectiveness_due attack foe =
+    if nat_le attack 14 && nat_le foe 14 then Ok (tenths_of (rows_against (element_of attack) (element_of foe) (element_of foe))).0 else Err 42
+
+-- A member's stats without a battle
+
+abbrev pub stats_of : Member → List ℕ
+stats_of m = m.max ∷ m.attack ∷ m.defense ∷ m.speed ∷ m.special ∷ []
+
+-- the stats of a team's only member; or the code of its error
+abbrev pub stats_due : MemberForm → Result (List ℕ) ℕ
+stats_due m =
+    if one_fault m == 0 then Ok (stats_of (slice_index_or (team_of (sheet_of m ∷ [])) 0 nobody)) else Err (one_fault m % 256)

@@ -19,10 +19,8 @@
 //! - `sentences`: their sentences
 //! - `damage`: the damage of a hit
 //! - `codes`: the codes that functions return
-//! - `names`: names of species, moves and types, and their rows of the tables
+//! - `names`: names of species, moves and types, their rows of the tables, and a member's stats
 //! - `effects`: the numbers of effects
-//! - `chart`: the type chart
-//! - `member_stats`: a member's stats without a battle
 //! - `odds`: the odds of a use of a move
 //! - `texts`: codes in words
 //! - `view`: the state that a battle's bytes represent, as plain structs, and back
@@ -39,7 +37,6 @@
 
 pub mod batches;
 pub mod battle;
-pub mod chart;
 pub mod choice;
 pub mod choices;
 mod codes;
@@ -52,7 +49,6 @@ pub mod guesses;
 pub mod hosts;
 pub mod lines;
 pub mod masks;
-pub mod member_stats;
 pub mod names;
 pub mod odds;
 pub mod outcomes;

@@ -1,14 +1,18 @@
-//! Names of species, moves and types, and their rows of the tables (include/gen1.h, "naming"; docs/TABLES.md).
-ghost use Rattle.std.specs.Prelude.{map, unwrap_or, ◌*◌, ◌+◌, ◌≡◌};
+//! Names of species, moves and types, their rows of the tables, and a member's stats (include/gen1.h, "naming"; docs/TABLES.md;
+//! docs/MECHANICS.md, "Stats").
+ghost use Rattle.std.specs.Prelude.{None, Some, if◌then◌else◌, map, nat_le, unwrap_or, ◌*◌, ◌+◌, ◌≡◌};
+ghost use Rattle.gen1_layout.specs.Decoding.{element_of};
 ghost use Rattle.gen1_text.specs.Ids.{move_called, species_called};
 ghost use Rattle.gen1_c.specs.Fronts.{Writes};
-ghost use Rattle.gen1_c.specs.Names.{Tells, base_due, base_row, move_due, move_text, row_of_move, species_text, type_names, type_text};
+ghost use Rattle.gen1_c.specs.Names.{Tells, base_due, base_row, effectiveness_due, move_due, move_text, row_of_move, species_text, stats_due, stats_of, type_names, type_text};
 
 use crate::codes::UNKNOWN;
 use crate::effects::{effect_number, is_often_critical, priority_of};
 use crate::fronts::write_text;
+use crate::teams::{MemberForm, team_of_one};
 use crate::texts::text_at;
-use gen1_tables::{MoveId, Species};
+use gen1_stats::Member;
+use gen1_tables::{Element, MoveId, Species, effectiveness};
 use gen1_text::{move_called, species_called};
 
 static TYPE_NAMES: [&str; 15] = [
@@ -163,4 +167,72 @@ fn row_of(id: MoveId) -> MoveForm
         priority: priority_of(id),
         high_critical: if is_often_critical(id) { 1 } else { 0 },
     }
+}
+
+/// Writes by how many tenths a move of a type changes its damage to a foe of one type: 0, 5, 10 or 20. Returns 0, or a code if one of
+/// the numbers is not a type; then nothing has changed.
+#[unsafe(no_mangle)]
+pub extern "C" fn gen1_effectiveness(attack_type: u8, foe_type: u8, tenths: &mut u8) -> u8
+    ensures { Tells (effectiveness_due attack_type foe_type) tenths.old tenths.new result }
+{
+    let Some(attack) = element_at(attack_type) else {
+        return UNKNOWN;
+    };
+    let Some(foe) = element_at(foe_type) else {
+        return UNKNOWN;
+    };
+    // The second factor is 10, since the foe has no second type.
+    *tenths = effectiveness(attack, foe, foe).0;
+    0
+}
+
+fn element_at(number: u8) -> Option<Element>
+    ensures { result ≡ (if nat_le number 14 then Some (element_of number) else None) }
+{
+    let element = match number {
+        0 => Element::Normal,
+        1 => Element::Fighting,
+        2 => Element::Flying,
+        3 => Element::Poison,
+        4 => Element::Ground,
+        5 => Element::Rock,
+        6 => Element::Bug,
+        7 => Element::Ghost,
+        8 => Element::Fire,
+        9 => Element::Water,
+        10 => Element::Grass,
+        11 => Element::Electric,
+        12 => Element::Psychic,
+        13 => Element::Ice,
+        14 => Element::Dragon,
+        _ => return None,
+    };
+    Some(element)
+}
+
+/// Writes a member's maximum HP, Attack, Defense, Speed and Special. Returns 0, or the code of the first error, as `gen1_new` returns
+/// it; then nothing has changed.
+#[unsafe(no_mangle)]
+pub extern "C" fn gen1_member_stats(member: &MemberForm, stats: &mut [u16; 5]) -> u8
+    ensures { Tells (stats_due member.now) stats.old stats.new result }
+{
+    match team_of_one(member) {
+        Ok(team) => {
+            *stats = stats_of(&team.members()[0]);
+            0
+        }
+        Err(fault) => (fault % 256) as u8,
+    }
+}
+
+fn stats_of(member: &Member) -> [u16; 5]
+    ensures { result ≡ stats_of member.now }
+{
+    [
+        member.max_hp(),
+        member.attack(),
+        member.defense(),
+        member.speed(),
+        member.special(),
+    ]
 }
