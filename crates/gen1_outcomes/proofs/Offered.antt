@@ -61,12 +61,6 @@ tests_as s a b one two why e f h =
 pub offered_as : (s : State) (a b one two : Choice) → a ≡ one → b ≡ two → AreOffered s a b → AreOffered s one two
 offered_as s a b one two e f h = subst (λ (x : Choice). AreOffered s x two) e (subst (λ (y : Choice). AreOffered s a y) f h)
 
-pub follows_as : (s : State) (a b one two : Choice) (parts : Parts) (events : Telling) → a ≡ one → b ≡ two
-    → (AreOffered s a b → CanFollow s a b parts events) → AreOffered s one two → CanFollow s one two parts events
-follows_as s a b one two parts events e f h =
-    subst (λ (x : Choice). AreOffered s x two → CanFollow s x two parts events) e
-    (subst (λ (y : Choice). AreOffered s a y → CanFollow s a y parts events) f h)
-
 pub leads_by : (s : State) (a b one two : Choice) (log : List Entry) (parts : Parts) (events : Telling) → a ≡ one → b ≡ two
     → (AreOffered s a b → Leads s a b log parts events) → AreOffered s one two → Leads s one two log parts events
 leads_by s a b one two log parts events e f h =
@@ -98,10 +92,10 @@ some_same : (a b : Choice × Choice) → Some a ≡ Some b → a ≡ b
 some_same a b e = cc
 
 -- The same for the choices of two bytes.
-pub follows_pair : (s : State) (bytes : ℕ × ℕ) (one two : Choice) (pair : Choice × Choice) (parts : Parts) (events : Telling) → Some one ≡ choice_at bytes.0
-    → Some two ≡ choice_at bytes.1 → choices_at bytes ≡ Some pair → (AreOffered s one two → CanFollow s one two parts events) → AreOffered s pair.0 pair.1
-    → CanFollow s pair.0 pair.1 parts events
-follows_pair s bytes one two pair parts events first second is =
+pub leads_pair : (s : State) (bytes : ℕ × ℕ) (one two : Choice) (pair : Choice × Choice) (log : List Entry) (parts : Parts) (events : Telling)
+    → Some one ≡ choice_at bytes.0 → Some two ≡ choice_at bytes.1 → choices_at bytes ≡ Some pair → (AreOffered s one two → Leads s one two log parts events)
+    → AreOffered s pair.0 pair.1 → Leads s pair.0 pair.1 log parts events
+leads_pair s bytes one two pair log parts events first second is =
     let read : both (choice_at bytes.0) (choice_at bytes.1) ≡ Some (one, two) = rw (sym first, sym second) refl in
     let same : (one, two) ≡ pair = some_same (one, two) pair (sym read ∙ is) in
-    follows_as s one two pair.0 pair.1 parts events (ap (λ (x : Choice × Choice). x.0) same) (ap (λ (x : Choice × Choice). x.1) same)
+    leads_by s one two pair.0 pair.1 log parts events (ap (λ (x : Choice × Choice). x.0) same) (ap (λ (x : Choice × Choice). x.1) same)

@@ -14,7 +14,7 @@ use Rattle.gen1_outcomes.specs.Bytes.{has, size}
 use Rattle.gen1_outcomes.specs.Classes.{alike_in}
 use Rattle.gen1_outcomes.specs.Following.{PlaysNext, PlaysWay, Walk}
 use Rattle.gen1_outcomes.specs.Nodes.{AllDone, AreBytes, AreLeft, AreOn, AreToCome, Covers, GoesOn, IsChance, IsDone, LeadsOn}
-use Rattle.gen1_outcomes.specs.Plain.{ArePlain, IsWay}
+use Rattle.gen1_outcomes.specs.Plain.{ArePlain, EndsWith, GoesOnTo}
 
 pub leads_on : (old new : Nodes) (list : List Node) (len : ℕ) (node : Node) → new.list ≡ set list (len - 1) node → new.len ≡ len → new.options ≡ old.options → list ≡ old.list
     → len ≤ old.len → 0 < len → len ≤ length list → (d : Node) → GoesOn (get_or list (len - 1) d) node
@@ -39,13 +39,13 @@ leads_on old new list len node is same_len options same shorter some within d go
       long = omega (arith, inside, same_len, ap length is ∙ length-set list (len - 1) node);
     }
 
--- The probability of a way of a plain walk, and what comes after it.
-pub way_is : (nodes next : Nodes) (chance : Chance) (walk : PlainWalk) (on : Bool) → IsChance nodes chance → (on ≡ true → LeadsOn nodes next) → (on ≡ false → AllDone nodes)
-    → (on ≡ true → walk.over ≡ 0) → (on ≡ false → walk.over ≡ 1) → walk.count ≡ next.len → ArePlain next.len next.list walk.draws → IsWay chance walk
-way_is nodes next chance walk true is leads done going over count draws =
-    record { nodes = nodes; chance = is; next = inl (record { going = going refl; next = next; leads = leads refl; count = count; draws = draws }) }
-way_is nodes next chance walk false is leads done going over count draws =
-    record { nodes = nodes; chance = is; next = inr (record { over = over refl; done = done refl }) }
+-- What comes after a way of a plain walk.
+pub next_is : (nodes next : Nodes) (walk : PlainWalk) (on : Bool) → (on ≡ true → LeadsOn nodes next) → (on ≡ false → AllDone nodes)
+    → (on ≡ true → walk.over ≡ 0) → (on ≡ false → walk.over ≡ 1) → walk.count ≡ next.len → ArePlain next.len next.list walk.draws
+    → GoesOnTo nodes walk ⊎ EndsWith nodes walk
+next_is nodes next walk true leads done going over count draws =
+    inl (record { going = going refl; next = next; leads = leads refl; count = count; draws = draws })
+next_is nodes next walk false leads done going over count draws = inr (record { over = over refl; done = done refl })
 
 -- The same of a walk whose type guarantees it.
 pub goes_past : (nodes next : Nodes) (c : Chance) (old : Walk) (on : Bool) (parts : Parts) (events : Telling) → IsChance nodes c → old.over ≡ false

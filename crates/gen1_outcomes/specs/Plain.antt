@@ -3,13 +3,20 @@ use Rattle.std.specs.Prelude.{List, None, Option, Some, false, min, replicate, s
 use Rattle.gen1_rolls.specs.declared.look.Look.{Look}
 use Rattle.gen1_rolls.specs.declared.look.Look.TheVariants.{Below, Factor, Remainder, RotatedBelow}
 use Rattle.gen1_machine.specs.declared.choice.Choice.{Choice}
+use Rattle.gen1_machine.specs.State.{State}
 use Rattle.gen1_layout.specs.Parts.{Parts}
+use Rattle.gen1_layout.specs.Shows.{Telling}
+use Rattle.gen1_layout.specs.Within.{Stands}
 use Rattle.gen1_engine.specs.Replay.{choices_at}
+use Rattle.gen1_engine.specs.Update.{AreOffered}
 use Rattle.gen1_outcomes.specs.declared.nodes.Chance.{Chance}
 use Rattle.gen1_outcomes.specs.declared.nodes.Node.{Node}
 use Rattle.gen1_outcomes.specs.declared.nodes.Nodes.{Nodes}
 use Rattle.gen1_outcomes.specs.Bytes.{size}
-use Rattle.gen1_outcomes.specs.Nodes.{AllDone, IsChance, LeadsOn}
+use Rattle.gen1_outcomes.specs.Following.{Leads}
+use Rattle.gen1_outcomes.specs.Logs.{IsLogged}
+use Rattle.gen1_outcomes.specs.Nodes.{AllDone, IsChance, IsPathOf, LeadsOn}
+use Rattle.gen1_outcomes.specs.Script.{script_of}
 use Rattle.gen1_outcomes.specs.declared.plain.PlainDraw.{PlainDraw}
 use Rattle.gen1_outcomes.specs.declared.plain.PlainWalk.{PlainWalk}
 
@@ -105,6 +112,21 @@ pub record IsWay (c : Chance) (walk : PlainWalk) : Type 0 where
   pub nodes : Nodes
   pub chance : IsChance nodes c
   pub next : GoesOnTo nodes walk ⊎ EndsWith nodes walk
+
+-- The next way of a plain walk was played: its probability is that of its draws, and it leads to a battle and events on each stream that agrees
+-- with its log.
+pub record PlaysPlain (c : Chance) (old new : PlainWalk) (parts : Parts) (events : Telling) : Type 0 where
+  pub before : Nodes
+  pub length : before.len ≡ old.count
+  pub draws : ArePlain old.count before.list old.draws
+  pub path : List ℕ
+  pub is_path : IsPathOf before path
+  pub nodes : Nodes
+  pub chance : IsChance nodes c
+  pub next : GoesOnTo nodes new ⊎ EndsWith nodes new
+  pub way : IsLogged (script_of path) (record { left = 0; nodes = before }) nodes
+  pub leads : (s : State) → Stands old.battle s → (pair : Choice × Choice) → choices_at (old.one, old.two) ≡ Some pair → AreOffered s pair.0 pair.1
+      → Leads s pair.0 pair.1 way.log parts events
 
 -- The bytes of draws that are always 0 are written with 0, or stay.
 abbrev pub KeepsUnused : List PlainDraw → List PlainDraw → Type 0

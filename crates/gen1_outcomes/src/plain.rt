@@ -9,7 +9,7 @@ ghost use Rattle.gen1_layout.specs.Words.{HasRoom};
 ghost use Rattle.gen1_engine.specs.Replay.{choices_at};
 ghost use Rattle.gen1_engine.specs.Update.{AreOffered};
 ghost use Rattle.gen1_outcomes.specs.Following.{CanFollow};
-ghost use Rattle.gen1_outcomes.specs.Plain.{ArePlain, HasDraws, IsDraw, IsPlain, IsUnderway, IsWay, KeepsUnused, KeepsUpdate, look_at, number_of, walk_before};
+ghost use Rattle.gen1_outcomes.specs.Plain.{ArePlain, HasDraws, IsDraw, IsPlain, IsUnderway, IsWay, KeepsUnused, KeepsUpdate, PlaysPlain, look_at, number_of, walk_before};
 
 use crate::byte_set::ByteSet;
 use crate::explorer::{After, Explorer};
@@ -128,6 +128,8 @@ pub fn next<S: EventSink>(
     ensures over { IfOk result (λ way. IfSome way (λ _. (walk.new.over ≡ 0) ⊎ (walk.new.over ≡ 1))) }
     ensures count { IfOk result (λ way. IfSome way (λ _. walk.new.count ≤ 24)) }
     ensures chance { IfOk result (λ way. IfSome way (λ c. IsWay c walk.new)) }
+    ensures plays { IfOk result (λ way. IfSome way (λ c.
+        PlaysPlain c walk.old walk.new battle.new (S.tells events.new))) }
     ensures underway { result ≢ Ok None → IsUnderway walk.old }
     ensures way { IsUnderway walk.old → result ≢ Ok None }
     ensures ended { walk.old.over ≢ 0 → result ≡ Ok None }

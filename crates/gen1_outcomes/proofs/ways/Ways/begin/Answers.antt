@@ -1,4 +1,5 @@
-use Rattle.std.proofs.Common.{List, [], ap, subst, sym, ◌∙◌, ◌≡◌}
+use Rattle.std.proofs.Common.{List, [], ap, subst, sym, ◌∙◌, ◌≡◌, rules}
+use Rattle.std.specs.Borrow.{GName}
 use Rattle.gen1_machine.specs.declared.choice.Choice.TheVariants as choices
 use Rattle.gen1_machine.specs.declared.side.Side.TheVariants.{One, Two}
 use Rattle.gen1_machine.specs.declared.terms.Request.TheVariants.{Move}
@@ -12,6 +13,7 @@ use Rattle.gen1_outcomes.specs.declared.nodes.Nodes.{Nodes}
 use Rattle.gen1_outcomes.specs.Beginning.{Begins, unflinched}
 use Rattle.gen1_outcomes.specs.Following.{Walk}
 use Rattle.gen1_outcomes.specs.Logs.{logged, place_at}
+use Rattle.gen1_outcomes.specs.Middles.{Reaches}
 use Rattle.gen1_outcomes.specs.Nodes.{Noting}
 use Rattle.gen1_outcomes.proofs.Logs.{logged_by, notes_keep, noting_is, same_place}
 use Rattle.gen1_outcomes.proofs.Offered.{way_as}
@@ -22,10 +24,13 @@ returns-in-Some-clause-reaches c =
     let path = c.path-path.result in
     let start = c.new-explorer.result in
     let last = c.begin-rest.new.random in
-    let same = same_place _ _ start last c.begin-rest.ensures.steps ∙ c.new-explorer.ensures.same_reference ∙ c.of.ensures.same_reference in
+    let same = same_place _ _ start last c.begin-rest.ensures.steps ∙ c.new-explorer.ensures.same_reference in
+    let reaches : (name : GName) → c.of.result.nodes.ghost_name ≡ name → (nodes : Nodes)
+    → (name ≡ last.notes.nodes.ghost_name → nodes ≡ last.notes.nodes.now) → Reaches c.args.self.now c.args.nodes.now nodes c.new.result =
+    λ name is nodes rests.
     let way =
-    way_as _ _ _ _ _ _ (λ (log : List Entry). Unit {0}) c.new-explorer.ensures.script
-    (c.new-explorer.ensures.noting ∙ noting_is _ 0 _ c.args.nodes.now c.of.ensures.left c.of.ensures.nodes) (sym (c.nodes-1.given.1 (sym same)))
+    way_as _ _ _ _ _ nodes (λ (log : List Entry). Unit {0}) c.new-explorer.ensures.script
+    (c.new-explorer.ensures.noting ∙ noting_is _ 0 _ c.args.nodes.now c.of.ensures.left c.of.ensures.nodes) (sym (rests (sym (same ∙ is))))
     (logged_by _ _ start last c.new-explorer.ensures.log c.draws_a_stream.ensures c.begin-rest.ensures.steps, tt)
     in
     record {
@@ -46,6 +51,8 @@ returns-in-Some-clause-reaches c =
           record { here = b.here; within = b.within; stands = b.stands; drawn = b.drawn; first = b.first; goes_on = b.goes_on }))
           stands plays ej ek;
     }
+    in
+    reaches _ c.of.ensures.same_reference _ (search rules)
 
 pub returns-in-Some-clause-options : goal.returns-in-Some-clause-options
 returns-in-Some-clause-options c = let way = (returns-in-Some-clause-reaches c).way in notes_keep way.log _ _ way.noted ∙ c.requires.options

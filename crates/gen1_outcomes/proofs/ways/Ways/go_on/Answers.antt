@@ -1,9 +1,12 @@
-use Rattle.std.proofs.Common.{◌+◌, ◌-◌, ◌≡◌, List, ap, arith, slice_index, subst, sym, ◌∙◌}
+use Rattle.std.proofs.Common.{◌+◌, ◌-◌, ◌≡◌, List, ap, arith, rules, slice_index, subst, sym, ◌∙◌}
+use Rattle.std.specs.Borrow.{GName}
 use Rattle.gen1_layout.specs.Parts.{Parts}
 use Rattle.gen1_layout.specs.Within.{Stands}
 use Rattle.gen1_machine.specs.State.{State}
 use Rattle.gen1_engine.specs.Update.{AreOffered}
 use Rattle.gen1_outcomes.specs.declared.log.Entry.{Entry}
+use Rattle.gen1_outcomes.specs.declared.nodes.Nodes.{Nodes}
+use Rattle.gen1_outcomes.specs.Middles.{PlaysOn}
 use Rattle.gen1_outcomes.specs.Following.{Leads, Walk}
 use Rattle.gen1_outcomes.specs.Listing.{untold}
 use Rattle.gen1_outcomes.proofs.Logs.{leads_of, logged_by, notes_keep, same_place}
@@ -13,17 +16,20 @@ use Rattle.gen1_outcomes.proofs.ways.Ways.go_on.Goals as goal
 pub returns-clause-plays : goal.returns-clause-plays
 returns-clause-plays c =
     let inside = c.self.inside in
+    let w = c.args.self.now in
     let parts = c.play.new.battle in
     let start = c.new-explorer.result in
     let last = c.play.result in
-    let same = same_place _ _ start last c.play.ensures.steps ∙ c.new-explorer.ensures.same_reference in
+    let same = same_place _ _ start last c.play.ensures.steps in
+    let plays : (name : GName) → start.notes.nodes.ghost_name ≡ name → (nodes : Nodes)
+    → (name ≡ last.notes.nodes.ghost_name → nodes ≡ last.notes.nodes.now) → PlaysOn w c.args.middle.now c.args.nodes.now nodes parts =
+    λ name is nodes rests.
     let way =
-    way_as _ _ _ _ _ _ (λ (log : List Entry). (s : State) → Stands c.args.self.now.start s → AreOffered s c.args.self.now.one c.args.self.now.two
-    → Leads s c.args.self.now.one c.args.self.now.two log parts untold)
-    c.new-explorer.ensures.script c.new-explorer.ensures.noting (sym (c.nodes-1.given.1 (sym same))) (
+    way_as _ _ _ _ _ nodes (λ (log : List Entry). (s : State) → Stands w.start s → AreOffered s w.one w.two → Leads s w.one w.two log parts untold)
+    c.new-explorer.ensures.script c.new-explorer.ensures.noting (sym (rests (sym (same ∙ is)))) (
       logged_by _ _ start last c.new-explorer.ensures.log c.draws_a_stream.ensures c.play.ensures.steps,
       λ s.
-          subst (λ (w : Walk). Stands w.start s → AreOffered s w.one w.two → Leads s w.one w.two last.log.entries parts untold) c.self.view_is (λ h.
+          subst (λ (x : Walk). Stands x.start s → AreOffered s x.one x.two → Leads s x.one x.two last.log.entries parts untold) c.self.view_is (λ h.
           leads_by s c.copied-one.result c.copied-two.result inside.one inside.two last.log.entries parts untold c.copied-one.ensures c.copied-two.ensures (λ o.
           let played = c.play.ensures.played s (subst (λ (p : Parts). Stands p s) (sym c.copy_of.ensures) h) o in
           leads_of _ _ start last s c.copied-one.result c.copied-two.result parts untold c.new-explorer.ensures.log played.by_turn (λ apart. (played.by_step apart).0))),
@@ -40,6 +46,8 @@ returns-clause-plays c =
       way = way.0;
       leads = way.1;
     }
+    in
+    plays _ c.new-explorer.ensures.same_reference _ (search rules)
 
 pub returns-clause-options : goal.returns-clause-options
 returns-clause-options c = let way = (returns-clause-plays c).way in notes_keep way.log _ _ way.noted ∙ c.requires.options
