@@ -1,6 +1,7 @@
 //! The chances that uses of a move knock out a member, or break its Substitute.
-use gen1::{Battle, Between, HpChange, MoveId, Odds, Side, ThreeChances};
+use gen1::{Battle, Between, Effect, HpChange, MoveId, Odds, Side, ThreeChances};
 use serde::Serialize;
+use std::collections::BTreeMap;
 
 /// The maximum number of uses.
 pub const MOST: usize = 9;
@@ -89,14 +90,17 @@ fn of_chances(chances: &ThreeChances, id: MoveId, odds: &Odds, target: Target) -
         numerator,
         denominator,
     };
-    let halves = id == MoveId::SUPER_FANG && !breaks_substitute;
     KnockOuts {
         hp: target.hp,
         breaks_substitute,
         once: fraction(chances.once, chances.once_of),
         twice: fraction(chances.twice, chances.twice_of),
         thrice: chances.thrice as f64 / chances.thrice_of as f64,
-        uses: in_turn(&damages(odds), Target { change, ..target }, halves),
+        uses: in_turn(
+            &damages(odds),
+            Target { change, ..target },
+            Rule::of(id, breaks_substitute),
+        ),
     }
 }
 
@@ -124,44 +128,110 @@ fn damages(odds: &Odds) -> Vec<(u16, f64)> {
     used
 }
 
-/// The chances that 1, 2, .. uses with these damages take all HP. If `halves`, each damage but 0 is half of what is left.
-fn in_turn(each: &[(u16, f64)], target: Target, halves: bool) -> Vec<f64> {
-    let most = usize::from(target.hp.max(target.max));
-    // The chance of each number of HP that may be left, and of having taken all.
-    let (mut standing, mut fallen) = (vec![0.0; most + 1], 0.0);
-    standing[usize::from(target.hp)] = 1.0;
-    let mut chances = Vec::new();
-    while chances.len() < MOST && chances.last() != Some(&1.0) {
-        let mut next = vec![0.0; most + 1];
-        for (left, chance) in standing.iter().enumerate().rev() {
-            for (damage, of_damage) in each.iter().filter(|_| *chance > 0.0) {
-                let taken = match halves && *damage > 0 {
-                    true => (left / 2).max(1),
-                    false => usize::from(*damage),
-                };
-                match left.saturating_sub(taken) {
-                    0 => fallen += chance * of_damage,
-                    rest => next[rest] += chance * of_damage,
+/// How a use of a move changes those after it.
+#[derive(Clone, Copy, PartialEq)]
+enum Rule {
+    /// It changes none.
+    Alone,
+    /// Each damage but 0 is half of the HP that are left.
+    Halving,
+    /// One that hits goes on: the next ones deal its damage again.
+    Trapping,
+}
+
+impl Rule {
+    fn of(id: MoveId, breaks_substitute: bool) -> Rule {
+        match id.effect() {
+            Effect::SuperFang if !breaks_substitute => Rule::Halving,
+            Effect::Trapping => Rule::Trapping,
+            _ => Rule::Alone,
+        }
+    }
+}
+
+/// In how many more uses trapping goes on, and the chance of it.
+const GOES_ON: [(u8, f64); 4] = [(1, 0.375), (2, 0.375), (3, 0.125), (4, 0.125)];
+
+/// The chances of what uses have left.
+struct Left {
+    /// Of each number of HP, before a new use.
+    free: Vec<f64>,
+    /// Of a number of HP, a damage, and how many uses deal it again.
+    held: BTreeMap<(usize, usize, u8), f64>,
+    /// Of no HP.
+    none: f64,
+}
+
+impl Left {
+    fn new(most: usize, none: f64) -> Left {
+        Left {
+            free: vec![0.0; most + 1],
+            held: BTreeMap::new(),
+            none,
+        }
+    }
+
+    fn add(&mut self, hp: usize, damage: usize, uses: u8, chance: f64) {
+        match (hp, uses) {
+            (0, _) => self.none += chance,
+            (_, 0) => self.free[hp] += chance,
+            _ => *self.held.entry((hp, damage, uses)).or_default() += chance,
+        }
+    }
+
+    /// After one use more.
+    fn after_use(&self, each: &[(u16, f64)], rule: Rule) -> Left {
+        let mut next = Left::new(self.free.len() - 1, self.none);
+        let free = self.free.iter().enumerate().rev();
+        for (hp, chance) in free.filter(|(_, chance)| **chance > 0.0) {
+            for (damage, of_damage) in each {
+                let (damage, chance) = (usize::from(*damage), chance * of_damage);
+                match rule {
+                    Rule::Trapping if damage > 0 => GOES_ON.iter().for_each(|(uses, part)| {
+                        next.add(hp.saturating_sub(damage), damage, *uses, chance * part);
+                    }),
+                    Rule::Halving if damage > 0 => next.add(hp - (hp / 2).max(1), 0, 0, chance),
+                    _ => next.add(hp.saturating_sub(damage), 0, 0, chance),
                 }
             }
         }
-        // If no HP can be left, all are taken for certain, and the rounded sum is ignored.
-        let is_certain = next.iter().all(|chance| *chance == 0.0);
-        chances.push(if is_certain { 1.0 } else { fallen.min(1.0) });
-        standing = vec![0.0; most + 1];
-        for (left, chance) in next.iter().enumerate().filter(|(_, chance)| **chance > 0.0) {
-            match target.before_next(left) {
-                0 => fallen += chance,
-                rest => standing[rest] += chance,
-            }
+        for ((hp, damage, uses), chance) in &self.held {
+            next.add(hp.saturating_sub(*damage), *damage, uses - 1, *chance);
         }
+        next
+    }
+
+    /// After the change of HP between two uses.
+    fn before_next(&self, target: Target) -> Left {
+        let mut next = Left::new(self.free.len() - 1, self.none);
+        for (hp, chance) in self.free.iter().enumerate().filter(|(_, it)| **it > 0.0) {
+            next.add(target.before_next(hp), 0, 0, *chance);
+        }
+        for ((hp, damage, uses), chance) in &self.held {
+            next.add(target.before_next(*hp), *damage, *uses, *chance);
+        }
+        next
+    }
+}
+
+/// The chances that 1, 2, .. uses with these damages take all HP.
+fn in_turn(each: &[(u16, f64)], target: Target, rule: Rule) -> Vec<f64> {
+    let mut left = Left::new(usize::from(target.hp.max(target.max)), 0.0);
+    left.free[usize::from(target.hp)] = 1.0;
+    let mut chances = Vec::new();
+    while chances.len() < MOST && chances.last() != Some(&1.0) {
+        left = left.after_use(each, rule);
+        // If no HP can be left, all are taken for certain, and the rounded sum is ignored.
+        let is_certain = left.held.is_empty() && left.free.iter().all(|chance| *chance == 0.0);
+        chances.push(if is_certain { 1.0 } else { left.none.min(1.0) });
+        left = left.before_next(target);
     }
     chances
 }
 
 #[cfg(test)]
 mod tests {
-    use super::{Target, in_turn};
+    use super::{Rule, Target, in_turn};
     use gen1::HpChange;
 
     fn target(hp: u16, gained: u16, lost: u16) -> Target {
@@ -174,31 +244,44 @@ mod tests {
         // Two throws of a coin with 1 and 3: at least 4 in all but one of four cases, and always with three.
         let coin = [(1, 0.5), (3, 0.5)];
         assert_eq!(
-            in_turn(&coin, target(4, 0, 0), false),
+            in_turn(&coin, target(4, 0, 0), Rule::Alone),
             [0.0, 0.75, 0.875, 1.0]
         );
-        assert_eq!(in_turn(&coin, target(1, 0, 0), false), [1.0]);
-        assert_eq!(in_turn(&[(0, 1.0)], target(1, 0, 0), false), [0.0; 9]);
+        assert_eq!(in_turn(&coin, target(1, 0, 0), Rule::Alone), [1.0]);
+        assert_eq!(in_turn(&[(0, 1.0)], target(1, 0, 0), Rule::Alone), [0.0; 9]);
         // 5 HP are halved to 3, 2, 1 and 0.
         assert_eq!(
-            in_turn(&[(2, 1.0)], target(5, 0, 0), true),
+            in_turn(&[(2, 1.0)], target(5, 0, 0), Rule::Halving),
             [0.0, 0.0, 0.0, 1.0]
         );
+    }
+
+    #[test]
+    fn trapping_deals_a_damage_again() {
+        // Half of the uses hit for 1. One that hits takes 2 in two uses, and in the third 1 more in 5 of 8 cases, or else if a new one hits.
+        let uses = in_turn(&[(0, 0.5), (1, 0.5)], target(3, 0, 0), Rule::Trapping);
+        assert_eq!(uses[..3], [0.0, 0.0, 0.5 * (0.625 + 0.375 * 0.5)]);
     }
 
     #[test]
     fn hp_change_between_uses() {
         // From 4 HP the coin leaves 3 or 1. Of these 2 are lost: 1 or 0.
         let coin = [(1, 0.5), (3, 0.5)];
-        assert_eq!(in_turn(&coin, target(4, 0, 2), false), [0.0, 1.0]);
+        assert_eq!(in_turn(&coin, target(4, 0, 2), Rule::Alone), [0.0, 1.0]);
         // With 2 gained, at most 6 in all, 5 or 3 are left; these become 4, 2, 2 and 0.
-        assert_eq!(in_turn(&coin, target(4, 2, 0), false)[..2], [0.0, 0.25]);
+        assert_eq!(
+            in_turn(&coin, target(4, 2, 0), Rule::Alone)[..2],
+            [0.0, 0.25]
+        );
         // 1 HP and a hit of 1: a defender that has fallen gains nothing.
         assert_eq!(
-            in_turn(&[(1, 0.5), (0, 0.5)], target(1, 5, 0), false)[..2],
+            in_turn(&[(1, 0.5), (0, 0.5)], target(1, 5, 0), Rule::Alone)[..2],
             [0.5, 0.5]
         );
         // 5 gained of 6 at most, then 6 lost.
-        assert_eq!(in_turn(&[(1, 1.0)], target(5, 5, 6), false), [0.0, 1.0]);
+        assert_eq!(
+            in_turn(&[(1, 1.0)], target(5, 5, 6), Rule::Alone),
+            [0.0, 1.0]
+        );
     }
 }
