@@ -320,8 +320,8 @@ class Host:
         """Offers a draw, which is agreed on if the other side has offered one
         for this pair. An offer ends with the pair.
 
-        Returns whether the battle has ended. An offer doesn't end a pair, so
-        report it to the other side separately: `Message.draw` has it. A
+        Returns whether the battle has ended. An offer doesn't end a pair,
+        so report it to the other side separately: `Message.draw` has it. A
         player that received the same message twice would refuse it. Raises
         `HostRefused` with OVER, `BadArgument`, `BadType`.
         """

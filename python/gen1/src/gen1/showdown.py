@@ -489,15 +489,15 @@ def commit(battle: str, player: int, secret: ReadableBuffer) -> bytes:
     - To choose a secret late, or to guess the other's: no second secret has
       the commitment, and it says nothing of 32 bytes by chance.
     - To repeat a commitment, of the other player or of an earlier battle:
-    it has the player and the name, so each battle needs a different
-    name.
+      it has the player and the name, so each battle needs a different
+      name.
     - To refuse the secret: a player that has both first knows the result.
-    So a refusal must be a loss (`Row.forfeit`), never a new draw; and
-    where secrets go to the host alone, a player has nothing to refuse by.
+      So a refusal must be a loss (`Row.forfeit`), never a new draw; and
+      where secrets go to the host alone, a player has nothing to refuse by.
     - To know draws in advance: both secrets give all draws of a battle
-    that continues with its seed. Players without a host agree again for
-    each pair, and submit the seed as `numbers`. A host that shows a
-    player the secrets can't be detected.
+      that continues with its seed. Players without a host agree again for
+      each pair, and submit the seed as `numbers`. A host that shows a
+      player the secrets can't be detected.
 
     Raises `BadArgument`, `BadType`.
     """
