@@ -11,6 +11,9 @@ import {span} from "./words.js";
 const VISIBLE = 0.0005;
 /** How many uses a line considers, and for how many numbers of uses it has chances. */
 const [USES, NAMED] = [9, 3];
+/** The moves that go on for 1 to 4 uses more after one that hits, with its damage; and the chance of each number. */
+const [TRAPPING, GOES_ON] = [["Bind", "Clamp", "Fire Spin", "Wrap"], [0.375, 0.375, 0.125, 0.125]];
+const HELD = 8192;
 const SHORT = ["atk", "def", "spe", "spc", "acc", "eva"];
 /** @type {Record<number, string>} */
 const AILING = {
@@ -151,26 +154,65 @@ export function onAverage(odds, foe) {
  */
 export function* usesToKnockOut(odds, hp) {
   const each = damages(odds);
-  const halves = odds.move === "Super Fang" && !odds.knockOut.breaksSubstitute;
   const {chanceOnce, chanceTwice, chanceThrice} = odds.knockOut;
   const exact = [chanceOnce, chanceTwice, chanceThrice];
-  // The chance of each sum below the HP.
-  let sums = Float64Array.of(1, ...Array(hp - 1).fill(0));
-  for (let use = 0, reached = 0, isCertain = false; use < USES && !isCertain; use++) {
-    const next = new Float64Array(hp);
-    for (let sum = 0; sum < hp; sum++) {
-      for (const [number, part] of sums[sum] ? each : []) {
-        const to = sum + (halves && number ? Math.max(1, Math.floor((hp - sum) / 2)) : number);
-        if (to < hp)
-          next[to] += sums[sum] * part;
-        else
-          reached += sums[sum] * part;
-      }
-    }
-    sums = next;
-    isCertain = sums.every((chance) => chance === 0);
-    yield exact[use] ?? (isCertain ? 1 : Math.min(1, reached));
+  const rule = ruleOf(odds);
+  /** @type {Taken} */
+  let taken = {free: Float64Array.of(1, ...Array(hp - 1).fill(0)), held: new Map(), all: 0};
+  for (let use = 0, isCertain = false; use < USES && !isCertain; use++) {
+    taken = afterUse(taken, each, rule);
+    isCertain = !taken.held.size && taken.free.every((chance) => chance === 0);
+    yield exact[use] ?? (isCertain ? 1 : Math.min(1, taken.all));
   }
+}
+
+/**
+ * How a use of a move changes those after it.
+ * @param {CalculatedMove} odds
+ */
+function ruleOf({move, knockOut}) {
+  if (TRAPPING.includes(move)) return "traps";
+  return move === "Super Fang" && !knockOut.breaksSubstitute ? "halves" : "";
+}
+
+/**
+ * The chances of what uses have taken: of each number of HP before a new use; of a number of HP with a damage that some uses deal again, by
+ * `HELD * number + 4 * damage + uses - 1`; and of all HP.
+ * @typedef {{free: Float64Array, held: Map<number, number>, all: number}} Taken
+ */
+
+/**
+ * @param {Taken} before
+ * @param {number[][]} each the damages of a use, with their chances
+ * @param {string} rule
+ * @returns {Taken}
+ */
+function afterUse(before, each, rule) {
+  const hp = before.free.length;
+  const after = {free: new Float64Array(hp), held: new Map(), all: before.all};
+  const add = (/** @type {number} */ sum, /** @type {number} */ chance, number = 0, uses = 0) => {
+    const at = HELD * sum + 4 * number + uses - 1;
+    if (sum >= hp)
+      after.all += chance;
+    else if (uses)
+      after.held.set(at, (after.held.get(at) ?? 0) + chance);
+    else
+      after.free[sum] += chance;
+  };
+  before.free.forEach((chance, sum) => {
+    for (const [drawn, part] of chance ? each : []) {
+      const number = Math.min(drawn, hp);
+      if (rule === "traps" && number)
+        GOES_ON.forEach((cases, at) => add(sum + number, chance * part * cases, number, at + 1));
+      else
+        add(sum + (rule === "halves" && number ? Math.max(1, Math.floor((hp - sum) / 2)) : number), chance * part);
+    }
+  });
+  for (const [at, chance] of before.held) {
+    const [number, uses] = [(at % HELD) >> 2, at & 3];
+    add(Math.floor(at / HELD) + number, chance, number, uses);
+  }
+  return after;
 }
 
 /**
