@@ -35,8 +35,8 @@ use Rattle.gen1_machine.specs.State.{Terms, active_in, changed_member, health_in
 use Rattle.gen1_machine.proofs.Sound.{planned-sound}
 use Rattle.gen1_hits.specs.Planned.{Follows}
 use Rattle.gen1_turn.specs.ActionSteps.{late_part}
-use Rattle.gen1_turn.specs.declared.action_damage.Way.{Way}
-use Rattle.gen1_turn.specs.declared.action_damage.Way.TheVariants as ways
+use Rattle.gen1_turn.specs.declared.action.damage.Way.{Way}
+use Rattle.gen1_turn.specs.declared.action.damage.Way.TheVariants as ways
 use Rattle.gen1_turn.specs.Damage.{AlikeDamage, LikeDamage, LikeUsual, cuts, edge_of, limit_in, way_of}
 
 -- By the effect of the move

@@ -11,8 +11,8 @@ use Rattle.gen1_layout.specs.Words.{Field, Phase, Progress, Side, conditions_in,
 use Rattle.gen1_machine.specs.LateEffects.{is_late}
 use Rattle.gen1_machine.specs.Moves.{Move}
 use Rattle.gen1_machine.specs.Progress.{set_last_damage}
-use Rattle.gen1_turn.specs.declared.action_damage.Way.{Way}
-use Rattle.gen1_turn.specs.declared.action_damage.Way.TheVariants as ways
+use Rattle.gen1_turn.specs.declared.action.damage.Way.{Way}
+use Rattle.gen1_turn.specs.declared.action.damage.Way.TheVariants as ways
 
 -- How the damage of a move is found.
 abbrev pub way_of : Effect → Way

@@ -8,14 +8,21 @@ ghost use Rattle.gen1_machine.specs.State.{is_over};
 ghost use Rattle.gen1_hits.specs.Knowing.{IsUncounted};
 ghost use Rattle.gen1_turn.specs.Action.{Acts, DoesParts, acting, picked, ready};
 
-use crate::action_steps::carry_out;
-use crate::taken_move::{move_taken, see_if_going_on};
+mod damage;
+mod lead_up;
+mod steps;
+mod strike;
+mod taken_move;
+mod used_move;
+
 use gen1_events::EventSink;
 use gen1_hits::Known;
 use gen1_layout::{Conditions, Packed};
 use gen1_machine::{Pick, Side};
 use gen1_rolls::Rolls;
 use gen1_status::gate;
+use steps::carry_out;
+use taken_move::{move_taken, see_if_going_on};
 
 /// Plays the action of `side` by its pick, from the gate to the kept accuracy (docs/MECHANICS.md, "Action").
 ///

@@ -13,8 +13,17 @@ ghost use Rattle.gen1_machine.specs.Step.{close_update};
 ghost use Rattle.gen1_layout.specs.Within.{Stands, setting_of};
 ghost use Rattle.gen1_switching.specs.Updates.{Plays, UpdatesDrawing, drawing_on};
 
-use crate::by_side::BySide;
-use crate::turn_choices::take_turn;
+mod by_side;
+mod choices;
+mod order;
+mod parts;
+
+pub use choices::{end_flinch, set_picked};
+pub use order::first_side;
+pub use parts::{act_and_suffer_as, end_turn};
+
+use by_side::BySide;
+use choices::take_turn;
 use gen1_events::EventSink;
 use gen1_hits::Known;
 use gen1_layout::Packed;

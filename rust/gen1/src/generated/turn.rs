@@ -2,29 +2,488 @@
 //! An action and a turn over the bytes of a battle ([docs/MECHANICS.md, "Action"](https://hibsuloy.example/gen1/blob/main/docs/MECHANICS.md#action), "Order of a turn").
 //!
 //! - `turn_update`: the update of a turn
-//! - `turn_choices`: a turn, by both choices
-//! - `turn_order`: who acts first
-//! - `turn_parts`: the parts of a turn, with residual damage
-//! - `by_side`: a generator for the action of each side
+//!   - `choices`: a turn, by both choices
+//!   - `order`: who acts first
+//!   - `parts`: the parts of a turn, with residual damage
+//!   - `by_side`: a generator for the action of each side
 //! - `action`: one side's action
-//! - `taken_move`: the move that an action takes
-//! - `action_steps`: the steps of an action after its move is settled
-//! - `lead_up`: what comes before any damage
-//! - `used_move`: a used move, and its PP
-//! - `action_damage`: the damage of an action
-//! - `strike`: a move that hits or misses
+//!   - `taken_move`: the move that an action takes
+//!   - `steps`: the steps of an action after its move is settled
+//!   - `lead_up`: what comes before any damage
+//!   - `used_move`: a used move, and its PP
+//!   - `damage`: the damage of an action
+//!   - `strike`: a move that hits or misses
 
 mod action {
     //! One side's action ([docs/MECHANICS.md, "Action"](https://hibsuloy.example/gen1/blob/main/docs/MECHANICS.md#action)).
 
-    use crate::generated::turn::action_steps::carry_out;
-    use crate::generated::turn::taken_move::{move_taken, see_if_going_on};
+    mod damage {
+        //! The damage of an action ([docs/MECHANICS.md, "Action"](https://hibsuloy.example/gen1/blob/main/docs/MECHANICS.md#action), step 7).
+
+        use crate::generated::hits::{Known, critical, damage, factor_up_to, hit_or_miss, numbers, type_steps};
+        use crate::generated::layout::Packed;
+        use crate::generated::machine::{Outcome, Side};
+        use crate::generated::multiturn::{counter_knowing, fixed_knowing, knock_out};
+        use crate::generated::rolls::Rolls;
+        use crate::generated::tables::{Effect, MoveId};
+
+        // How the damage of a move is found.
+        #[derive(Clone, Copy, Debug, PartialEq, Eq)]
+        pub(crate) enum Way {
+            Counter,
+            Fixed,
+            KnockOut,
+            Usual,
+        }
+
+        fn way_of(effect: Effect) -> Way {
+            match effect {
+                Effect::Counter => Way::Counter,
+                Effect::FixedDamage | Effect::SuperFang => Way::Fixed,
+                Effect::OneHitKnockOut => Way::KnockOut,
+                _ => Way::Usual,
+            }
+        }
+
+        // Finds the damage of a move, and whether it hits. Returns whether a fault ended the battle. The last damage may differ
+        // from the machine's if both do the same to the foe.
+        pub(crate) fn damage_of<R: Rolls>(
+            battle: &mut Packed,
+            side: Side,
+            id: MoveId,
+            known: &mut Known,
+            random: &mut R,
+        ) -> bool {
+            match way_of(id.effect()) {
+                Way::Counter => {
+                    counter_knowing(battle, side, id, known, random);
+                    false
+                }
+                Way::Fixed => fixed_knowing(battle, side, id, known, random),
+                Way::KnockOut => {
+                    knock_out(battle, side, id, known, random);
+                    false
+                }
+                Way::Usual => damage_by_power(battle, side, id, known, random),
+            }
+        }
+
+        fn damage_by_power<R: Rolls>(
+            battle: &mut Packed,
+            side: Side,
+            id: MoveId,
+            known: &mut Known,
+            random: &mut R,
+        ) -> bool {
+            battle.put_last_damage(0);
+            if id.power() == 0 {
+                return false;
+            }
+            known.critical = critical(battle, side, id, random);
+            if roll_damage(battle, side, id, known, random) {
+                return true;
+            }
+            hit_or_miss(battle, side, id, known, random);
+            false
+        }
+
+        // Finds the damage of a hit. Returns whether the divisor is 0.
+        fn roll_damage<R: Rolls>(
+            battle: &mut Packed,
+            side: Side,
+            id: MoveId,
+            known: &mut Known,
+            random: &mut R,
+        ) -> bool {
+            let numbers = numbers(battle, side, id, known.critical);
+            let Some(before) = damage(&numbers) else {
+                battle.put_outcome(Outcome::Fault(1));
+                return true;
+            };
+            let after = type_steps(before, &numbers);
+            known.through_types = true;
+            known.missed = after == 0;
+            let (edge, cut) = damage_edge(battle, side.other());
+            let varied = factor_up_to(after, edge, cut, random);
+            battle.put_last_damage(varied);
+            false
+        }
+
+        // The least damage of a hit that fells the foe or breaks its Substitute, and whether all damage from there on has the
+        // same effect. A Substitute takes damage uncut.
+        fn damage_edge(battle: &Packed, foe: Side) -> (u16, bool) {
+            match battle.substitute(foe) {
+                Some(left) => (u16::from(left) + 1, false),
+                None => (battle.hp(foe), true),
+            }
+        }
+    }
+
+    mod lead_up {
+        //! The lead-up, before any damage: charging, the use of the move, an early effect, and what trapping and thrashing do
+        //! first ([docs/MECHANICS.md, "Action"](https://hibsuloy.example/gen1/blob/main/docs/MECHANICS.md#action), steps 3 to 6).
+
+        use super::used_move::use_move;
+        use crate::generated::effects::{group_one_knowing, is_early};
+        use crate::generated::events::EventSink;
+        use crate::generated::hits::Known;
+        use crate::generated::layout::Packed;
+        use crate::generated::machine::{Pick, Side};
+        use crate::generated::multiturn::{charge_knowing, thrash_knowing, trap_knowing};
+        use crate::generated::rolls::Rolls;
+        use crate::generated::tables::MoveId;
+
+        pub(crate) fn lead_up<R: Rolls, S: EventSink>(
+            battle: &mut Packed,
+            side: Side,
+            pick: Pick,
+            id: MoveId,
+            known: &mut Known,
+            random: &mut R,
+            events: &mut S,
+        ) -> bool {
+            if charge_knowing(battle, side, pick, id, known, random, events) {
+                return true;
+            }
+            use_move(battle, side, pick, id, known, events);
+            begin_move(battle, side, id, known, random, events)
+        }
+
+        // After the move is used.
+        fn begin_move<R: Rolls, S: EventSink>(
+            battle: &mut Packed,
+            side: Side,
+            id: MoveId,
+            known: &mut Known,
+            random: &mut R,
+            events: &mut S,
+        ) -> bool {
+            if early_effect(battle, side, id, known, random, events) {
+                return true;
+            }
+            prelude(battle, side, id, known, random, events);
+            false
+        }
+
+        // Returns whether the move has an early effect, which ends the action.
+        fn early_effect<R: Rolls, S: EventSink>(
+            battle: &mut Packed,
+            side: Side,
+            id: MoveId,
+            known: &mut Known,
+            random: &mut R,
+            events: &mut S,
+        ) -> bool {
+            if is_early(id.effect()) {
+                group_one_knowing(battle, side, id, known, random, events);
+                return true;
+            }
+            false
+        }
+
+        // What trapping and thrashing moves do before their damage.
+        fn prelude<R: Rolls, S: EventSink>(
+            battle: &mut Packed,
+            side: Side,
+            id: MoveId,
+            known: &Known,
+            random: &mut R,
+            events: &mut S,
+        ) {
+            if id.effect().traps() {
+                trap_knowing(battle, side, known, random);
+                return;
+            }
+            if id.effect().thrashes() {
+                thrash_knowing(battle, side, id, known, random, events);
+            }
+        }
+    }
+
+    mod steps {
+        //! An action after its move is settled ([docs/MECHANICS.md, "Action"](https://hibsuloy.example/gen1/blob/main/docs/MECHANICS.md#action), from step 2 on).
+
+        use super::damage::damage_of;
+        use super::lead_up::lead_up;
+        use super::strike::strike;
+        use crate::generated::effects::{group_two_knowing, is_late};
+        use crate::generated::events::EventSink;
+        use crate::generated::hits::Known;
+        use crate::generated::layout::Packed;
+        use crate::generated::machine::{Pick, Side};
+        use crate::generated::multiturn::bide_knowing;
+        use crate::generated::rolls::Rolls;
+        use crate::generated::tables::{Effect, MoveId};
+
+        // The energy of Bide skips the steps before the strike. Returns whether the rest of the action was skipped.
+        #[cfg_attr(not(target_family = "wasm"), inline(always))] pub(crate) fn carry_out<R: Rolls, S: EventSink>(
+            battle: &mut Packed,
+            side: Side,
+            pick: Pick,
+            id: MoveId,
+            known: &mut Known,
+            random: &mut R,
+            events: &mut S,
+        ) -> bool {
+            if bide_knowing(battle, side, known, events) {
+                return true;
+            }
+            if lead_up_unless_let_go(battle, side, pick, id, known, random, events) {
+                return true;
+            }
+            damage_and_strike(battle, side, id, known, random, events)
+        }
+
+        fn lead_up_unless_let_go<R: Rolls, S: EventSink>(
+            battle: &mut Packed,
+            side: Side,
+            pick: Pick,
+            id: MoveId,
+            known: &mut Known,
+            random: &mut R,
+            events: &mut S,
+        ) -> bool {
+            if known.letting_go {
+                return false;
+            }
+            lead_up(battle, side, pick, id, known, random, events)
+        }
+
+        // What follows the lead-up.
+        fn damage_and_strike<R: Rolls, S: EventSink>(
+            battle: &mut Packed,
+            side: Side,
+            id: MoveId,
+            known: &mut Known,
+            random: &mut R,
+            events: &mut S,
+        ) -> bool {
+            if damage_unless_landing(battle, side, id, known, random) {
+                return true;
+            }
+            if late_part(battle, side, id, known, random, events) {
+                return true;
+            }
+            strike(battle, side, id, known, random, events)
+        }
+
+        #[cfg_attr(not(target_family = "wasm"), inline(always))] fn damage_unless_landing<R: Rolls>(
+            battle: &mut Packed,
+            side: Side,
+            id: MoveId,
+            known: &mut Known,
+            random: &mut R,
+        ) -> bool {
+            if lands_at_once(known, id.effect()) {
+                return false;
+            }
+            damage_of(battle, side, id, known, random)
+        }
+
+        // Bide's energy and trapping that continues skip the damage and go straight to the landing.
+        fn lands_at_once(known: &Known, effect: Effect) -> bool {
+            known.letting_go || (known.going_on && effect.traps())
+        }
+
+        fn late_part<R: Rolls, S: EventSink>(
+            battle: &mut Packed,
+            side: Side,
+            id: MoveId,
+            known: &mut Known,
+            random: &mut R,
+            events: &mut S,
+        ) -> bool {
+            if known.letting_go {
+                return false;
+            }
+            late_effect(battle, side, id, known, random, events)
+        }
+
+        // Returns whether the move has a late effect, which ends the action.
+        fn late_effect<R: Rolls, S: EventSink>(
+            battle: &mut Packed,
+            side: Side,
+            id: MoveId,
+            known: &mut Known,
+            random: &mut R,
+            events: &mut S,
+        ) -> bool {
+            if is_late(id.effect()) {
+                group_two_knowing(battle, side, id, known, random, events);
+                return true;
+            }
+            false
+        }
+    }
+
+    mod strike {
+        //! A move that hits or misses, and its side effect ([docs/MECHANICS.md, "Action"](https://hibsuloy.example/gen1/blob/main/docs/MECHANICS.md#action), from step 9 on).
+
+        use crate::generated::effects::side_effect_knowing;
+        use crate::generated::events::EventSink;
+        use crate::generated::hits::Known;
+        use crate::generated::layout::Packed;
+        use crate::generated::machine::Side;
+        use crate::generated::multiturn::{hits, missed_move};
+        use crate::generated::rolls::Rolls;
+        use crate::generated::tables::MoveId;
+
+        pub(crate) fn strike<R: Rolls, S: EventSink>(
+            battle: &mut Packed,
+            side: Side,
+            id: MoveId,
+            known: &mut Known,
+            random: &mut R,
+            events: &mut S,
+        ) -> bool {
+            if known.missed {
+                missed_move(battle, side, id, events);
+                return true;
+            }
+            hits_with_effect(battle, side, id, known, random, events)
+        }
+
+        // After the move is known to hit.
+        fn hits_with_effect<R: Rolls, S: EventSink>(
+            battle: &mut Packed,
+            side: Side,
+            id: MoveId,
+            known: &mut Known,
+            random: &mut R,
+            events: &mut S,
+        ) -> bool {
+            hits(battle, side, id, known, random, events);
+            if has_no_effect(battle, side, known) {
+                return false;
+            }
+            side_effect_knowing(battle, side, id, known, random, events)
+        }
+
+        // Bide's energy, a hit that breaks a substitute and a fall have no side effect.
+        fn has_no_effect(battle: &Packed, side: Side, known: &Known) -> bool {
+            known.letting_go || (known.broke || battle.hp(side.other()) == 0)
+        }
+    }
+
+    mod taken_move {
+        //! The move that an action takes, and whether it continues ([docs/MECHANICS.md, "Picks"](https://hibsuloy.example/gen1/blob/main/docs/MECHANICS.md#picks), "Going on").
+
+        use crate::generated::hits::Known;
+        use crate::generated::layout::Packed;
+        use crate::generated::machine::{Pick, Side};
+        use crate::generated::status::{keeps_going, number_of, used_by};
+        use crate::generated::tables::MoveId;
+
+        // A move that continues costs no PP. If its condition has ended meanwhile, the move is used as a new one.
+        pub(crate) fn see_if_going_on(battle: &Packed, side: Side, pick: Pick, known: &mut Known) {
+            known.going_on = goes_on(battle, side, pick);
+        }
+
+        fn goes_on(battle: &Packed, side: Side, pick: Pick) -> bool {
+            if is_use(pick) {
+                return false;
+            }
+            keeps_going(battle, side)
+        }
+
+        fn is_use(pick: Pick) -> bool {
+            matches!(pick, Pick::Use(_))
+        }
+
+        // The move that a pick uses. An action that comes this far always has one.
+        #[cfg_attr(not(target_family = "wasm"), inline(always))] pub(crate) fn move_taken(battle: &Packed, side: Side, pick: Pick) -> MoveId {
+            let used = used_by(battle, side, pick);
+            match MoveId::new(number_of(battle, side, used)) {
+                Some(id) => id,
+                None => MoveId::default(),
+            }
+        }
+    }
+
+    mod used_move {
+        //! The use of a move: it becomes the current one, and costs PP ([docs/MECHANICS.md, "Action"](https://hibsuloy.example/gen1/blob/main/docs/MECHANICS.md#action), step 4).
+
+        use crate::generated::events::{EventSink, Untested};
+        use crate::generated::hits::Known;
+        use crate::generated::layout::Packed;
+        use crate::generated::machine::{Pick, Side, UsedMove};
+        use crate::generated::multiturn::make_current;
+        use crate::generated::status::among_slots;
+        use crate::generated::tables::MoveId;
+
+        // The user uses its move. A move of Bide's effect writes no event.
+        #[inline(always)] // docs/SPEED.md, "Hints on inlining"
+        pub(crate) fn use_move<S: EventSink>(
+            battle: &mut Packed,
+            side: Side,
+            pick: Pick,
+            id: MoveId,
+            known: &Known,
+            events: &mut S,
+        ) {
+            take_up(battle, side, pick);
+            spend_pp_unless_going(battle, side, known);
+            note_move(battle, side, id, events);
+        }
+
+        // A picked move becomes the current one. A move that continues is that already.
+        fn take_up(battle: &mut Packed, side: Side, pick: Pick) {
+            match pick {
+                Pick::Use(_) => make_current(battle, side, pick),
+                Pick::Continue => {}
+                Pick::Idle => {}
+                Pick::Held => {}
+            }
+        }
+
+        fn spend_pp_unless_going(battle: &mut Packed, side: Side, known: &Known) {
+            if known.going_on {
+                return;
+            }
+            spend_pp(battle, side, battle.current_move(side));
+        }
+
+        fn spend_pp(battle: &mut Packed, side: Side, used: UsedMove) {
+            match used {
+                UsedMove::Nothing => {}
+                UsedMove::Struggle => {}
+                UsedMove::Slot(slot) => spend_pp_of(battle, side, slot),
+            }
+        }
+
+        fn spend_pp_of(battle: &mut Packed, side: Side, slot: u8) {
+            let slot = among_slots(slot);
+            let left = less_pp(battle.pp(side, slot));
+            battle.put_pp(side, slot, left);
+        }
+
+        // PP have six bits, so 63 follows 0.
+        fn less_pp(pp: u8) -> u8 {
+            match pp {
+                0 => 63,
+                _ => pp - 1,
+            }
+        }
+
+        fn note_move<S: EventSink>(battle: &Packed, side: Side, id: MoveId, events: &mut S) {
+            if id.effect().bides() {
+                return;
+            }
+            let species = battle.species_number(side);
+            let foe = battle.species_number(side.other());
+            events.push_untested(Untested::Move(side, species, id, foe));
+        }
+    }
+
+
     use crate::generated::events::EventSink;
     use crate::generated::hits::Known;
     use crate::generated::layout::{Conditions, Packed};
     use crate::generated::machine::{Pick, Side};
     use crate::generated::rolls::Rolls;
     use crate::generated::status::gate;
+    use steps::carry_out;
+    use taken_move::{move_taken, see_if_going_on};
 
     /// Plays the action of `side` by its pick, from the gate to the kept accuracy ([docs/MECHANICS.md, "Action"](https://hibsuloy.example/gen1/blob/main/docs/MECHANICS.md#action)).
     ///
@@ -89,788 +548,410 @@ mod action {
     }
 }
 
-mod action_damage {
-    //! The damage of an action ([docs/MECHANICS.md, "Action"](https://hibsuloy.example/gen1/blob/main/docs/MECHANICS.md#action), step 7).
-
-    use crate::generated::hits::{Known, critical, damage, factor_up_to, hit_or_miss, numbers, type_steps};
-    use crate::generated::layout::Packed;
-    use crate::generated::machine::{Outcome, Side};
-    use crate::generated::multiturn::{counter_knowing, fixed_knowing, knock_out};
-    use crate::generated::rolls::Rolls;
-    use crate::generated::tables::{Effect, MoveId};
-
-    // How the damage of a move is found.
-    #[derive(Clone, Copy, Debug, PartialEq, Eq)]
-    pub(crate) enum Way {
-        Counter,
-        Fixed,
-        KnockOut,
-        Usual,
-    }
-
-    fn way_of(effect: Effect) -> Way {
-        match effect {
-            Effect::Counter => Way::Counter,
-            Effect::FixedDamage | Effect::SuperFang => Way::Fixed,
-            Effect::OneHitKnockOut => Way::KnockOut,
-            _ => Way::Usual,
-        }
-    }
-
-    // Finds the damage of a move, and whether it hits. Returns whether a fault ended the battle. The last damage may differ
-    // from the machine's if both do the same to the foe.
-    pub(crate) fn damage_of<R: Rolls>(
-        battle: &mut Packed,
-        side: Side,
-        id: MoveId,
-        known: &mut Known,
-        random: &mut R,
-    ) -> bool {
-        match way_of(id.effect()) {
-            Way::Counter => {
-                counter_knowing(battle, side, id, known, random);
-                false
-            }
-            Way::Fixed => fixed_knowing(battle, side, id, known, random),
-            Way::KnockOut => {
-                knock_out(battle, side, id, known, random);
-                false
-            }
-            Way::Usual => damage_by_power(battle, side, id, known, random),
-        }
-    }
-
-    fn damage_by_power<R: Rolls>(
-        battle: &mut Packed,
-        side: Side,
-        id: MoveId,
-        known: &mut Known,
-        random: &mut R,
-    ) -> bool {
-        battle.put_last_damage(0);
-        if id.power() == 0 {
-            return false;
-        }
-        known.critical = critical(battle, side, id, random);
-        if roll_damage(battle, side, id, known, random) {
-            return true;
-        }
-        hit_or_miss(battle, side, id, known, random);
-        false
-    }
-
-    // Finds the damage of a hit. Returns whether the divisor is 0.
-    fn roll_damage<R: Rolls>(
-        battle: &mut Packed,
-        side: Side,
-        id: MoveId,
-        known: &mut Known,
-        random: &mut R,
-    ) -> bool {
-        let numbers = numbers(battle, side, id, known.critical);
-        let Some(before) = damage(&numbers) else {
-            battle.put_outcome(Outcome::Fault(1));
-            return true;
-        };
-        let after = type_steps(before, &numbers);
-        known.through_types = true;
-        known.missed = after == 0;
-        let (edge, cut) = damage_edge(battle, side.other());
-        let varied = factor_up_to(after, edge, cut, random);
-        battle.put_last_damage(varied);
-        false
-    }
-
-    // The least damage of a hit that fells the foe or breaks its Substitute, and whether all damage from there on has the
-    // same effect. A Substitute takes damage uncut.
-    fn damage_edge(battle: &Packed, foe: Side) -> (u16, bool) {
-        match battle.substitute(foe) {
-            Some(left) => (u16::from(left) + 1, false),
-            None => (battle.hp(foe), true),
-        }
-    }
-}
-
-mod action_steps {
-    //! An action after its move is settled ([docs/MECHANICS.md, "Action"](https://hibsuloy.example/gen1/blob/main/docs/MECHANICS.md#action), from step 2 on).
-
-    use crate::generated::turn::action_damage::damage_of;
-    use crate::generated::turn::lead_up::lead_up;
-    use crate::generated::turn::strike::strike;
-    use crate::generated::effects::{group_two_knowing, is_late};
-    use crate::generated::events::EventSink;
-    use crate::generated::hits::Known;
-    use crate::generated::layout::Packed;
-    use crate::generated::machine::{Pick, Side};
-    use crate::generated::multiturn::bide_knowing;
-    use crate::generated::rolls::Rolls;
-    use crate::generated::tables::{Effect, MoveId};
-
-    // The energy of Bide skips the steps before the strike. Returns whether the rest of the action was skipped.
-    #[cfg_attr(not(target_family = "wasm"), inline(always))] pub(crate) fn carry_out<R: Rolls, S: EventSink>(
-        battle: &mut Packed,
-        side: Side,
-        pick: Pick,
-        id: MoveId,
-        known: &mut Known,
-        random: &mut R,
-        events: &mut S,
-    ) -> bool {
-        if bide_knowing(battle, side, known, events) {
-            return true;
-        }
-        if lead_up_unless_let_go(battle, side, pick, id, known, random, events) {
-            return true;
-        }
-        damage_and_strike(battle, side, id, known, random, events)
-    }
-
-    fn lead_up_unless_let_go<R: Rolls, S: EventSink>(
-        battle: &mut Packed,
-        side: Side,
-        pick: Pick,
-        id: MoveId,
-        known: &mut Known,
-        random: &mut R,
-        events: &mut S,
-    ) -> bool {
-        if known.letting_go {
-            return false;
-        }
-        lead_up(battle, side, pick, id, known, random, events)
-    }
-
-    // What follows the lead-up.
-    fn damage_and_strike<R: Rolls, S: EventSink>(
-        battle: &mut Packed,
-        side: Side,
-        id: MoveId,
-        known: &mut Known,
-        random: &mut R,
-        events: &mut S,
-    ) -> bool {
-        if damage_unless_landing(battle, side, id, known, random) {
-            return true;
-        }
-        if late_part(battle, side, id, known, random, events) {
-            return true;
-        }
-        strike(battle, side, id, known, random, events)
-    }
-
-    #[cfg_attr(not(target_family = "wasm"), inline(always))] fn damage_unless_landing<R: Rolls>(
-        battle: &mut Packed,
-        side: Side,
-        id: MoveId,
-        known: &mut Known,
-        random: &mut R,
-    ) -> bool {
-        if lands_at_once(known, id.effect()) {
-            return false;
-        }
-        damage_of(battle, side, id, known, random)
-    }
-
-    // Bide's energy and trapping that continues skip the damage and go straight to the landing.
-    fn lands_at_once(known: &Known, effect: Effect) -> bool {
-        known.letting_go || (known.going_on && effect.traps())
-    }
-
-    fn late_part<R: Rolls, S: EventSink>(
-        battle: &mut Packed,
-        side: Side,
-        id: MoveId,
-        known: &mut Known,
-        random: &mut R,
-        events: &mut S,
-    ) -> bool {
-        if known.letting_go {
-            return false;
-        }
-        late_effect(battle, side, id, known, random, events)
-    }
-
-    // Returns whether the move has a late effect, which ends the action.
-    fn late_effect<R: Rolls, S: EventSink>(
-        battle: &mut Packed,
-        side: Side,
-        id: MoveId,
-        known: &mut Known,
-        random: &mut R,
-        events: &mut S,
-    ) -> bool {
-        if is_late(id.effect()) {
-            group_two_knowing(battle, side, id, known, random, events);
-            return true;
-        }
-        false
-    }
-}
-
-mod by_side {
-    //! A generator as two types, one for the action of each side ([docs/MECHANICS.md, "Order of a turn"](https://hibsuloy.example/gen1/blob/main/docs/MECHANICS.md#order-of-a-turn)).
-
-    use crate::generated::rolls::{ByteTest, Look, Rolls};
-
-    /// A second type for a generator, with the same draws.
-    ///
-    /// Code that is generic in its generator is compiled once for each type. Side 1's action draws from `.0`, and side
-    /// 2's from this type, so the two are separate code. In each of them the side, and with it every address, is a
-    /// constant ([docs/SPEED.md, "An action for each side"](https://hibsuloy.example/gen1/blob/main/docs/SPEED.md#an-action-for-each-side)).
-    pub(crate) struct BySide<R>(pub(crate) R);
-
-    impl<R: Rolls> Rolls for BySide<R> {
-        fn draw(&mut self) -> u8 {
-            self.0.draw()
-        }
-
-        fn draw_as(&mut self, look: Look) -> u8 {
-            self.0.draw_as(look)
-        }
-
-        #[cfg_attr(not(target_family = "wasm"), inline(always))] fn until_as(&mut self, test: ByteTest, look: Look) -> Option<u8> {
-            self.0.until_as(test, look)
-        }
-    }
-}
-
-mod lead_up {
-    //! The lead-up, before any damage: charging, the use of the move, an early effect, and what trapping and thrashing do
-    //! first ([docs/MECHANICS.md, "Action"](https://hibsuloy.example/gen1/blob/main/docs/MECHANICS.md#action), steps 3 to 6).
-
-    use crate::generated::turn::used_move::use_move;
-    use crate::generated::effects::{group_one_knowing, is_early};
-    use crate::generated::events::EventSink;
-    use crate::generated::hits::Known;
-    use crate::generated::layout::Packed;
-    use crate::generated::machine::{Pick, Side};
-    use crate::generated::multiturn::{charge_knowing, thrash_knowing, trap_knowing};
-    use crate::generated::rolls::Rolls;
-    use crate::generated::tables::MoveId;
-
-    pub(crate) fn lead_up<R: Rolls, S: EventSink>(
-        battle: &mut Packed,
-        side: Side,
-        pick: Pick,
-        id: MoveId,
-        known: &mut Known,
-        random: &mut R,
-        events: &mut S,
-    ) -> bool {
-        if charge_knowing(battle, side, pick, id, known, random, events) {
-            return true;
-        }
-        use_move(battle, side, pick, id, known, events);
-        begin_move(battle, side, id, known, random, events)
-    }
-
-    // After the move is used.
-    fn begin_move<R: Rolls, S: EventSink>(
-        battle: &mut Packed,
-        side: Side,
-        id: MoveId,
-        known: &mut Known,
-        random: &mut R,
-        events: &mut S,
-    ) -> bool {
-        if early_effect(battle, side, id, known, random, events) {
-            return true;
-        }
-        prelude(battle, side, id, known, random, events);
-        false
-    }
-
-    // Returns whether the move has an early effect, which ends the action.
-    fn early_effect<R: Rolls, S: EventSink>(
-        battle: &mut Packed,
-        side: Side,
-        id: MoveId,
-        known: &mut Known,
-        random: &mut R,
-        events: &mut S,
-    ) -> bool {
-        if is_early(id.effect()) {
-            group_one_knowing(battle, side, id, known, random, events);
-            return true;
-        }
-        false
-    }
-
-    // What trapping and thrashing moves do before their damage.
-    fn prelude<R: Rolls, S: EventSink>(
-        battle: &mut Packed,
-        side: Side,
-        id: MoveId,
-        known: &Known,
-        random: &mut R,
-        events: &mut S,
-    ) {
-        if id.effect().traps() {
-            trap_knowing(battle, side, known, random);
-            return;
-        }
-        if id.effect().thrashes() {
-            thrash_knowing(battle, side, id, known, random, events);
-        }
-    }
-}
-
-mod strike {
-    //! A move that hits or misses, and its side effect ([docs/MECHANICS.md, "Action"](https://hibsuloy.example/gen1/blob/main/docs/MECHANICS.md#action), from step 9 on).
-
-    use crate::generated::effects::side_effect_knowing;
-    use crate::generated::events::EventSink;
-    use crate::generated::hits::Known;
-    use crate::generated::layout::Packed;
-    use crate::generated::machine::Side;
-    use crate::generated::multiturn::{hits, missed_move};
-    use crate::generated::rolls::Rolls;
-    use crate::generated::tables::MoveId;
-
-    pub(crate) fn strike<R: Rolls, S: EventSink>(
-        battle: &mut Packed,
-        side: Side,
-        id: MoveId,
-        known: &mut Known,
-        random: &mut R,
-        events: &mut S,
-    ) -> bool {
-        if known.missed {
-            missed_move(battle, side, id, events);
-            return true;
-        }
-        hits_with_effect(battle, side, id, known, random, events)
-    }
-
-    // After the move is known to hit.
-    fn hits_with_effect<R: Rolls, S: EventSink>(
-        battle: &mut Packed,
-        side: Side,
-        id: MoveId,
-        known: &mut Known,
-        random: &mut R,
-        events: &mut S,
-    ) -> bool {
-        hits(battle, side, id, known, random, events);
-        if has_no_effect(battle, side, known) {
-            return false;
-        }
-        side_effect_knowing(battle, side, id, known, random, events)
-    }
-
-    // Bide's energy, a hit that breaks a substitute and a fall have no side effect.
-    fn has_no_effect(battle: &Packed, side: Side, known: &Known) -> bool {
-        known.letting_go || (known.broke || battle.hp(side.other()) == 0)
-    }
-}
-
-mod taken_move {
-    //! The move that an action takes, and whether it continues ([docs/MECHANICS.md, "Picks"](https://hibsuloy.example/gen1/blob/main/docs/MECHANICS.md#picks), "Going on").
-
-    use crate::generated::hits::Known;
-    use crate::generated::layout::Packed;
-    use crate::generated::machine::{Pick, Side};
-    use crate::generated::status::{keeps_going, number_of, used_by};
-    use crate::generated::tables::MoveId;
-
-    // A move that continues costs no PP. If its condition has ended meanwhile, the move is used as a new one.
-    pub(crate) fn see_if_going_on(battle: &Packed, side: Side, pick: Pick, known: &mut Known) {
-        known.going_on = goes_on(battle, side, pick);
-    }
-
-    fn goes_on(battle: &Packed, side: Side, pick: Pick) -> bool {
-        if is_use(pick) {
-            return false;
-        }
-        keeps_going(battle, side)
-    }
-
-    fn is_use(pick: Pick) -> bool {
-        matches!(pick, Pick::Use(_))
-    }
-
-    // The move that a pick uses. An action that comes this far always has one.
-    #[cfg_attr(not(target_family = "wasm"), inline(always))] pub(crate) fn move_taken(battle: &Packed, side: Side, pick: Pick) -> MoveId {
-        let used = used_by(battle, side, pick);
-        match MoveId::new(number_of(battle, side, used)) {
-            Some(id) => id,
-            None => MoveId::default(),
-        }
-    }
-}
-
-mod turn_choices {
-    //! A turn, by both choices ([docs/MECHANICS.md, "Order of a turn"](https://hibsuloy.example/gen1/blob/main/docs/MECHANICS.md#order-of-a-turn)).
-
-    use crate::generated::turn::by_side::BySide;
-    use crate::generated::turn::turn_order::{rank, rank_of, side_by_ranks};
-    use crate::generated::turn::turn_parts::{act_and_suffer, end_spent_trapping, end_turn, sends_and_suffers};
-    use crate::generated::events::EventSink;
-    use crate::generated::hits::Known;
-    use crate::generated::layout::{Conditions, Packed};
-    use crate::generated::machine::{Choice, Pick, Place, Side, UsedMove};
-    use crate::generated::rolls::Rolls;
-    use crate::generated::status::{number_of, pick};
-
-    // A whole turn. No member has fainted after it yet. If it returns false, both members that are out live and the battle continues.
-    pub(crate) fn take_turn<R: Rolls, S: EventSink>(
-        battle: &mut Packed,
-        one: Choice,
-        two: Choice,
-        known: &mut Known,
-        random: &mut BySide<R>,
-        events: &mut S,
-    ) -> bool {
-        end_flinch(battle, Side::One);
-        end_flinch(battle, Side::Two);
-        act_on_choices(battle, one, two, known, random, events)
-    }
-
-    /// Ends the flinch of `side`, with which a turn begins ([docs/MECHANICS.md, "Order of a turn"](https://hibsuloy.example/gen1/blob/main/docs/MECHANICS.md#order-of-a-turn)).
-    pub fn end_flinch(battle: &mut Packed, side: Side) {
-        battle.put_flag(side, Conditions::FLINCH, false);
-    }
-
-    fn act_on_choices<R: Rolls, S: EventSink>(
-        battle: &mut Packed,
-        one: Choice,
-        two: Choice,
-        known: &mut Known,
-        random: &mut BySide<R>,
-        events: &mut S,
-    ) -> bool {
-        match one {
-            Choice::Move(_) => match two {
-                Choice::Move(_) => {
-                    let first = pick(battle, Side::One, one);
-                    let second = pick(battle, Side::Two, two);
-                    both_pick(battle, first, second, known, random, events)
-                }
-                Choice::Switch(place) => {
-                    let first = pick(battle, Side::One, one);
-                    one_picks(battle, Side::One, first, place, known, random, events)
-                }
-                Choice::Pass => true
-            },
-            Choice::Switch(place) => match two {
-                Choice::Move(_) => {
-                    let second = pick(battle, Side::Two, two);
-                    one_picks(battle, Side::Two, second, place, known, random, events)
-                }
-                Choice::Switch(other) => both_switch(battle, place, other, known, events),
-                Choice::Pass => true
-            },
-            Choice::Pass => true
-        }
-    }
-
-    fn both_pick<R: Rolls, S: EventSink>(
-        battle: &mut Packed,
-        one: Pick,
-        two: Pick,
-        known: &mut Known,
-        random: &mut BySide<R>,
-        events: &mut S,
-    ) -> bool {
-        let first = settle_pick(battle, Side::One, one);
-        let second = settle_pick(battle, Side::Two, two);
-        match side_by_ranks(battle, first, second, random) {
-            Side::One => both_act(battle, Side::One, one, two, known, random, events),
-            Side::Two => both_act(battle, Side::Two, two, one, known, random, events),
-        }
-    }
-
-    // Writes down what `side` has picked, and returns the rank of its move. A picked move is not read back.
-    #[inline(always)] // docs/SPEED.md, "Hints on inlining"
-    fn settle_pick(battle: &mut Packed, side: Side, picked: Pick) -> u8 {
-        match picked {
-            Pick::Use(used) => {
-                battle.put_picked_move(side, used);
-                rank(number_of(battle, side, used))
-            }
-            Pick::Held => {
-                battle.put_picked_move(side, UsedMove::Nothing);
-                rank(0)
-            }
-            Pick::Continue => rank_of(battle, side),
-            Pick::Idle => rank_of(battle, side),
-        }
-    }
-
-    /// Writes down what `side` has picked, before anyone acts ([docs/MECHANICS.md, "Picks"](https://hibsuloy.example/gen1/blob/main/docs/MECHANICS.md#picks)).
-    pub fn set_picked(battle: &mut Packed, side: Side, pick: Pick) {
-        match pick {
-            Pick::Use(used) => battle.put_picked_move(side, used),
-            Pick::Held => battle.put_picked_move(side, UsedMove::Nothing),
-            Pick::Continue => {}
-            Pick::Idle => {}
-        }
-    }
-
-    // Both sides use a move, this side first.
-    fn both_act<R: Rolls, S: EventSink>(
-        battle: &mut Packed,
-        side: Side,
-        mine: Pick,
-        others: Pick,
-        known: &mut Known,
-        random: &mut BySide<R>,
-        events: &mut S,
-    ) -> bool {
-        if act_and_suffer(battle, side, mine, known, random, events) {
-            return true;
-        }
-        if act_and_suffer(battle, side.other(), others, known, random, events) {
-            return true;
-        }
-        end_turn(battle);
-        false
-    }
-
-    // One side uses a move. The other switches first.
-    #[inline(always)] // docs/SPEED.md, "Hints on inlining"
-    fn one_picks<R: Rolls, S: EventSink>(
-        battle: &mut Packed,
-        side: Side,
-        pick: Pick,
-        place: Place,
-        known: &mut Known,
-        random: &mut BySide<R>,
-        events: &mut S,
-    ) -> bool {
-        set_picked(battle, side, pick);
-        if sends_and_suffers(battle, side.other(), place, known, events) {
-            return true;
-        }
-        if act_and_suffer(battle, side, pick, known, random, events) {
-            return true;
-        }
-        // The side that switched isn't trapping.
-        end_spent_trapping(battle, side);
-        false
-    }
-
-    // Both sides switch, side 1 first.
-    fn both_switch<S: EventSink>(
-        battle: &mut Packed,
-        one: Place,
-        two: Place,
-        known: &mut Known,
-        events: &mut S,
-    ) -> bool {
-        if sends_and_suffers(battle, Side::One, one, known, events) {
-            return true;
-        }
-        if sends_and_suffers(battle, Side::Two, two, known, events) {
-            return true;
-        }
-        // Neither side is trapping.
-        false
-    }
-}
-
-mod turn_order {
-    //! Who acts first in a turn ([docs/MECHANICS.md, "Order of a turn"](https://hibsuloy.example/gen1/blob/main/docs/MECHANICS.md#order-of-a-turn)).
-
-    use crate::generated::layout::Packed;
-    use crate::generated::machine::Side;
-    use crate::generated::rolls::{Look, Rolls};
-    use crate::generated::status::number_of;
-    use crate::generated::tables::{COUNTER, Stat};
-
-    const QUICK_ATTACK: u8 = 98;
-
-    // At equal Speed, a draw below this puts side 1 first.
-    const SIDE_1_BELOW: u8 = 128;
-
-    /// The side that acts first: by the picked moves, then by Speed, then by a draw ([docs/MECHANICS.md, "Order of a turn"](https://hibsuloy.example/gen1/blob/main/docs/MECHANICS.md#order-of-a-turn)).
-    #[inline(always)] // docs/SPEED.md, "Hints on inlining"
-    pub fn first_side<R: Rolls>(battle: &Packed, random: &mut R) -> Side {
-        let one = rank_of(battle, Side::One);
-        let two = rank_of(battle, Side::Two);
-        side_by_ranks(battle, one, two, random)
-    }
-
-    // The side that acts first, by the ranks of both sides' moves.
-    #[inline(always)] // docs/SPEED.md, "Hints on inlining"
-    pub(crate) fn side_by_ranks<R: Rolls>(battle: &Packed, one: u8, two: u8, random: &mut R) -> Side {
-        if one < two {
-            return Side::One;
-        }
-        if two < one {
-            return Side::Two;
-        }
-        faster_side(battle, random)
-    }
-
-    #[cfg_attr(not(target_family = "wasm"), inline(always))] fn faster_side<R: Rolls>(battle: &Packed, random: &mut R) -> Side {
-        let one = battle.current_stat(Side::One, Stat::Speed);
-        let two = battle.current_stat(Side::Two, Stat::Speed);
-        if two < one {
-            return Side::One;
-        }
-        if one < two {
-            return Side::Two;
-        }
-        if random.draw_as(Look::Below(SIDE_1_BELOW)) < SIDE_1_BELOW {
-            return Side::One;
-        }
-        Side::Two
-    }
-
-    pub(crate) fn rank_of(battle: &Packed, side: Side) -> u8 {
-        rank(number_of(battle, side, battle.picked_move(side)))
-    }
-
-    // Quick Attack comes before other moves, and Counter after them.
-    pub(crate) fn rank(number: u8) -> u8 {
-        match number {
-            QUICK_ATTACK => 0,
-            COUNTER => 2,
-            _ => 1,
-        }
-    }
-}
-
-mod turn_parts {
-    //! The parts of a turn, each with the residual damage of its side ([docs/MECHANICS.md, "Order of a turn"](https://hibsuloy.example/gen1/blob/main/docs/MECHANICS.md#order-of-a-turn)).
-
-    use crate::generated::turn::act;
-    use crate::generated::turn::by_side::BySide;
-    use crate::generated::events::EventSink;
-    use crate::generated::hits::Known;
-    use crate::generated::layout::Packed;
-    use crate::generated::machine::{Pick, Place, Side};
-    use crate::generated::rolls::Rolls;
-    use crate::generated::stats::Status;
-    use crate::generated::status::{residual, suffers};
-    use crate::generated::switching::send_out;
-
-    // A side's action, and its residual damage, by separate code for each side. Returns whether the rest of the turn is
-    // skipped.
-    pub(crate) fn act_and_suffer<R: Rolls, S: EventSink>(
-        battle: &mut Packed,
-        side: Side,
-        pick: Pick,
-        known: &mut Known,
-        random: &mut BySide<R>,
-        events: &mut S,
-    ) -> bool {
-        match side {
-            Side::One => act_and_suffer_as(battle, Side::One, pick, known, &mut random.0, events),
-            Side::Two => act_and_suffer_as(battle, Side::Two, pick, known, random, events),
-        }
-    }
-
-    /// The action of `side` in a turn, and then its residual damage ([docs/MECHANICS.md, "Order of a turn"](https://hibsuloy.example/gen1/blob/main/docs/MECHANICS.md#order-of-a-turn)).
-    ///
-    /// It does what `known` says of the turn so far: Haze may have ended the action. Returns whether the rest of the turn is
-    /// skipped. It needs 24 free places in `events`.
-    #[inline(never)] // docs/SPEED.md, "Hints on inlining"
-    pub fn act_and_suffer_as<R: Rolls, S: EventSink>(
-        battle: &mut Packed,
-        side: Side,
-        pick: Pick,
-        known: &mut Known,
-        random: &mut R,
-        events: &mut S,
-    ) -> bool {
-        *known = known.begun(side);
-        if known.skips {
-            return suffer_unless_over(battle, side, events);
-        }
-        if act(battle, side, pick, known, random, events) {
-            return true;
-        }
-        suffer(battle, side, events)
-    }
-
-    /// Sends out a member of `side`, and then takes its residual damage ([docs/MECHANICS.md, "Order of a turn"](https://hibsuloy.example/gen1/blob/main/docs/MECHANICS.md#order-of-a-turn)).
-    ///
-    /// Returns whether the rest of the turn is skipped. It needs 4 free places in `events`.
-    #[inline(always)] // docs/SPEED.md, "Hints on inlining"
-    pub(crate) fn sends_and_suffers<S: EventSink>(
-        battle: &mut Packed,
-        side: Side,
-        place: Place,
-        known: &mut Known,
-        events: &mut S,
-    ) -> bool {
-        *known = known.begun(side);
-        let is_hurt = is_hurt_at(battle, side, place);
-        send_out(battle, side, place, events);
-        suffer_if(battle, side, is_hurt, events)
-    }
-
-    // Whether residual damage will take HP from a member that comes out. No seed is on it.
-    #[inline(always)] // docs/SPEED.md, "Hints on inlining"
-    fn is_hurt_at(battle: &Packed, side: Side, place: Place) -> bool {
-        let at = place.number();
-        takes_hp(battle.status_at(side, at))
-    }
-
-    fn takes_hp(status: Status) -> bool {
-        matches!(status, Status::Poisoned | Status::Burned)
-    }
-
-    // A side's residual damage after a skipped action. Few actions are skipped.
-    #[inline(never)] // docs/SPEED.md, "Hints on inlining"
-    fn suffer_unless_over<S: EventSink>(battle: &mut Packed, side: Side, events: &mut S) -> bool {
-        if battle.outcome().is_over() {
-            return true;
-        }
-        suffer(battle, side, events)
-    }
-
-    // A side's residual damage in a battle that continues, unless an active member has fallen. Returns whether the turn is
-    // cut now.
-    #[inline(always)] // docs/SPEED.md, "Hints on inlining"
-    fn suffer<S: EventSink>(battle: &mut Packed, side: Side, events: &mut S) -> bool {
-        if one_has_fallen(battle) {
-            return true;
-        }
-        let is_hurt = suffers(battle, side);
-        suffer_if(battle, side, is_hurt, events)
-    }
-
-    // A side's residual damage in a turn that isn't cut, if there is any. Returns whether the turn is cut now.
-    #[inline(always)] // docs/SPEED.md, "Hints on inlining"
-    fn suffer_if<S: EventSink>(battle: &mut Packed, side: Side, is_hurt: bool, events: &mut S) -> bool {
-        if !is_hurt {
-            return false;
-        }
-        residual(battle, side, events);
-        one_has_fallen(battle)
-    }
-
-    // Whether an active member has fallen.
-    #[cfg_attr(not(target_family = "wasm"), inline(always))] fn one_has_fallen(battle: &Packed) -> bool {
-        battle.has_fallen(Side::One) || battle.has_fallen(Side::Two)
-    }
-
-    /// Ends a turn whose rest was not skipped: trapping with a count of 0 ends ([docs/MECHANICS.md, "Order of a turn"](https://hibsuloy.example/gen1/blob/main/docs/MECHANICS.md#order-of-a-turn)).
-    pub fn end_turn(battle: &mut Packed) {
-        end_spent_trapping(battle, Side::One);
-        end_spent_trapping(battle, Side::Two);
-    }
-
-    pub(crate) fn end_spent_trapping(battle: &mut Packed, side: Side) {
-        if is_spent(battle.trapping(side)) {
-            battle.end_trapping(side);
-        }
-    }
-
-    fn is_spent(count: Option<u8>) -> bool {
-        count == Some(0)
-    }
-}
-
 mod turn_update {
     //! The update of a battle that asks both sides for a move: a turn, and its close ([docs/MECHANICS.md](https://hibsuloy.example/gen1/blob/main/docs/MECHANICS.md), "Order of a
     //! turn", "Falls and requests").
 
-    use crate::generated::turn::by_side::BySide;
-    use crate::generated::turn::turn_choices::take_turn;
+    mod by_side {
+        //! A generator as two types, one for the action of each side ([docs/MECHANICS.md, "Order of a turn"](https://hibsuloy.example/gen1/blob/main/docs/MECHANICS.md#order-of-a-turn)).
+
+        use crate::generated::rolls::{ByteTest, Look, Rolls};
+
+        /// A second type for a generator, with the same draws.
+        ///
+        /// Code that is generic in its generator is compiled once for each type. Side 1's action draws from `.0`, and side
+        /// 2's from this type, so the two are separate code. In each of them the side, and with it every address, is a
+        /// constant ([docs/SPEED.md, "An action for each side"](https://hibsuloy.example/gen1/blob/main/docs/SPEED.md#an-action-for-each-side)).
+        pub(crate) struct BySide<R>(pub(crate) R);
+
+        impl<R: Rolls> Rolls for BySide<R> {
+            fn draw(&mut self) -> u8 {
+                self.0.draw()
+            }
+
+            fn draw_as(&mut self, look: Look) -> u8 {
+                self.0.draw_as(look)
+            }
+
+            #[cfg_attr(not(target_family = "wasm"), inline(always))] fn until_as(&mut self, test: ByteTest, look: Look) -> Option<u8> {
+                self.0.until_as(test, look)
+            }
+        }
+    }
+
+    mod choices {
+        //! A turn, by both choices ([docs/MECHANICS.md, "Order of a turn"](https://hibsuloy.example/gen1/blob/main/docs/MECHANICS.md#order-of-a-turn)).
+
+        use super::by_side::BySide;
+        use super::order::{rank, rank_of, side_by_ranks};
+        use super::parts::{act_and_suffer, end_spent_trapping, end_turn, sends_and_suffers};
+        use crate::generated::events::EventSink;
+        use crate::generated::hits::Known;
+        use crate::generated::layout::{Conditions, Packed};
+        use crate::generated::machine::{Choice, Pick, Place, Side, UsedMove};
+        use crate::generated::rolls::Rolls;
+        use crate::generated::status::{number_of, pick};
+
+        // A whole turn. No member has fainted after it yet. If it returns false, both members that are out live and the battle continues.
+        pub(crate) fn take_turn<R: Rolls, S: EventSink>(
+            battle: &mut Packed,
+            one: Choice,
+            two: Choice,
+            known: &mut Known,
+            random: &mut BySide<R>,
+            events: &mut S,
+        ) -> bool {
+            end_flinch(battle, Side::One);
+            end_flinch(battle, Side::Two);
+            act_on_choices(battle, one, two, known, random, events)
+        }
+
+        /// Ends the flinch of `side`, with which a turn begins ([docs/MECHANICS.md, "Order of a turn"](https://hibsuloy.example/gen1/blob/main/docs/MECHANICS.md#order-of-a-turn)).
+        pub fn end_flinch(battle: &mut Packed, side: Side) {
+            battle.put_flag(side, Conditions::FLINCH, false);
+        }
+
+        fn act_on_choices<R: Rolls, S: EventSink>(
+            battle: &mut Packed,
+            one: Choice,
+            two: Choice,
+            known: &mut Known,
+            random: &mut BySide<R>,
+            events: &mut S,
+        ) -> bool {
+            match one {
+                Choice::Move(_) => match two {
+                    Choice::Move(_) => {
+                        let first = pick(battle, Side::One, one);
+                        let second = pick(battle, Side::Two, two);
+                        both_pick(battle, first, second, known, random, events)
+                    }
+                    Choice::Switch(place) => {
+                        let first = pick(battle, Side::One, one);
+                        one_picks(battle, Side::One, first, place, known, random, events)
+                    }
+                    Choice::Pass => true
+                },
+                Choice::Switch(place) => match two {
+                    Choice::Move(_) => {
+                        let second = pick(battle, Side::Two, two);
+                        one_picks(battle, Side::Two, second, place, known, random, events)
+                    }
+                    Choice::Switch(other) => both_switch(battle, place, other, known, events),
+                    Choice::Pass => true
+                },
+                Choice::Pass => true
+            }
+        }
+
+        fn both_pick<R: Rolls, S: EventSink>(
+            battle: &mut Packed,
+            one: Pick,
+            two: Pick,
+            known: &mut Known,
+            random: &mut BySide<R>,
+            events: &mut S,
+        ) -> bool {
+            let first = settle_pick(battle, Side::One, one);
+            let second = settle_pick(battle, Side::Two, two);
+            match side_by_ranks(battle, first, second, random) {
+                Side::One => both_act(battle, Side::One, one, two, known, random, events),
+                Side::Two => both_act(battle, Side::Two, two, one, known, random, events),
+            }
+        }
+
+        // Writes down what `side` has picked, and returns the rank of its move. A picked move is not read back.
+        #[inline(always)] // docs/SPEED.md, "Hints on inlining"
+        fn settle_pick(battle: &mut Packed, side: Side, picked: Pick) -> u8 {
+            match picked {
+                Pick::Use(used) => {
+                    battle.put_picked_move(side, used);
+                    rank(number_of(battle, side, used))
+                }
+                Pick::Held => {
+                    battle.put_picked_move(side, UsedMove::Nothing);
+                    rank(0)
+                }
+                Pick::Continue => rank_of(battle, side),
+                Pick::Idle => rank_of(battle, side),
+            }
+        }
+
+        /// Writes down what `side` has picked, before anyone acts ([docs/MECHANICS.md, "Picks"](https://hibsuloy.example/gen1/blob/main/docs/MECHANICS.md#picks)).
+        pub fn set_picked(battle: &mut Packed, side: Side, pick: Pick) {
+            match pick {
+                Pick::Use(used) => battle.put_picked_move(side, used),
+                Pick::Held => battle.put_picked_move(side, UsedMove::Nothing),
+                Pick::Continue => {}
+                Pick::Idle => {}
+            }
+        }
+
+        // Both sides use a move, this side first.
+        fn both_act<R: Rolls, S: EventSink>(
+            battle: &mut Packed,
+            side: Side,
+            mine: Pick,
+            others: Pick,
+            known: &mut Known,
+            random: &mut BySide<R>,
+            events: &mut S,
+        ) -> bool {
+            if act_and_suffer(battle, side, mine, known, random, events) {
+                return true;
+            }
+            if act_and_suffer(battle, side.other(), others, known, random, events) {
+                return true;
+            }
+            end_turn(battle);
+            false
+        }
+
+        // One side uses a move. The other switches first.
+        #[inline(always)] // docs/SPEED.md, "Hints on inlining"
+        fn one_picks<R: Rolls, S: EventSink>(
+            battle: &mut Packed,
+            side: Side,
+            pick: Pick,
+            place: Place,
+            known: &mut Known,
+            random: &mut BySide<R>,
+            events: &mut S,
+        ) -> bool {
+            set_picked(battle, side, pick);
+            if sends_and_suffers(battle, side.other(), place, known, events) {
+                return true;
+            }
+            if act_and_suffer(battle, side, pick, known, random, events) {
+                return true;
+            }
+            // The side that switched isn't trapping.
+            end_spent_trapping(battle, side);
+            false
+        }
+
+        // Both sides switch, side 1 first.
+        fn both_switch<S: EventSink>(
+            battle: &mut Packed,
+            one: Place,
+            two: Place,
+            known: &mut Known,
+            events: &mut S,
+        ) -> bool {
+            if sends_and_suffers(battle, Side::One, one, known, events) {
+                return true;
+            }
+            if sends_and_suffers(battle, Side::Two, two, known, events) {
+                return true;
+            }
+            // Neither side is trapping.
+            false
+        }
+    }
+
+    mod order {
+        //! Who acts first in a turn ([docs/MECHANICS.md, "Order of a turn"](https://hibsuloy.example/gen1/blob/main/docs/MECHANICS.md#order-of-a-turn)).
+
+        use crate::generated::layout::Packed;
+        use crate::generated::machine::Side;
+        use crate::generated::rolls::{Look, Rolls};
+        use crate::generated::status::number_of;
+        use crate::generated::tables::{COUNTER, Stat};
+
+        const QUICK_ATTACK: u8 = 98;
+
+        // At equal Speed, a draw below this puts side 1 first.
+        const SIDE_1_BELOW: u8 = 128;
+
+        /// The side that acts first: by the picked moves, then by Speed, then by a draw ([docs/MECHANICS.md, "Order of a turn"](https://hibsuloy.example/gen1/blob/main/docs/MECHANICS.md#order-of-a-turn)).
+        #[inline(always)] // docs/SPEED.md, "Hints on inlining"
+        pub fn first_side<R: Rolls>(battle: &Packed, random: &mut R) -> Side {
+            let one = rank_of(battle, Side::One);
+            let two = rank_of(battle, Side::Two);
+            side_by_ranks(battle, one, two, random)
+        }
+
+        // The side that acts first, by the ranks of both sides' moves.
+        #[inline(always)] // docs/SPEED.md, "Hints on inlining"
+        pub(crate) fn side_by_ranks<R: Rolls>(battle: &Packed, one: u8, two: u8, random: &mut R) -> Side {
+            if one < two {
+                return Side::One;
+            }
+            if two < one {
+                return Side::Two;
+            }
+            faster_side(battle, random)
+        }
+
+        #[cfg_attr(not(target_family = "wasm"), inline(always))] fn faster_side<R: Rolls>(battle: &Packed, random: &mut R) -> Side {
+            let one = battle.current_stat(Side::One, Stat::Speed);
+            let two = battle.current_stat(Side::Two, Stat::Speed);
+            if two < one {
+                return Side::One;
+            }
+            if one < two {
+                return Side::Two;
+            }
+            if random.draw_as(Look::Below(SIDE_1_BELOW)) < SIDE_1_BELOW {
+                return Side::One;
+            }
+            Side::Two
+        }
+
+        pub(crate) fn rank_of(battle: &Packed, side: Side) -> u8 {
+            rank(number_of(battle, side, battle.picked_move(side)))
+        }
+
+        // Quick Attack comes before other moves, and Counter after them.
+        pub(crate) fn rank(number: u8) -> u8 {
+            match number {
+                QUICK_ATTACK => 0,
+                COUNTER => 2,
+                _ => 1,
+            }
+        }
+    }
+
+    mod parts {
+        //! The parts of a turn, each with the residual damage of its side ([docs/MECHANICS.md, "Order of a turn"](https://hibsuloy.example/gen1/blob/main/docs/MECHANICS.md#order-of-a-turn)).
+
+        use super::by_side::BySide;
+        use crate::generated::turn::act;
+        use crate::generated::events::EventSink;
+        use crate::generated::hits::Known;
+        use crate::generated::layout::Packed;
+        use crate::generated::machine::{Pick, Place, Side};
+        use crate::generated::rolls::Rolls;
+        use crate::generated::stats::Status;
+        use crate::generated::status::{residual, suffers};
+        use crate::generated::switching::send_out;
+
+        // A side's action, and its residual damage, by separate code for each side. Returns whether the rest of the turn is
+        // skipped.
+        pub(crate) fn act_and_suffer<R: Rolls, S: EventSink>(
+            battle: &mut Packed,
+            side: Side,
+            pick: Pick,
+            known: &mut Known,
+            random: &mut BySide<R>,
+            events: &mut S,
+        ) -> bool {
+            match side {
+                Side::One => act_and_suffer_as(battle, Side::One, pick, known, &mut random.0, events),
+                Side::Two => act_and_suffer_as(battle, Side::Two, pick, known, random, events),
+            }
+        }
+
+        /// The action of `side` in a turn, and then its residual damage ([docs/MECHANICS.md, "Order of a turn"](https://hibsuloy.example/gen1/blob/main/docs/MECHANICS.md#order-of-a-turn)).
+        ///
+        /// It does what `known` says of the turn so far: Haze may have ended the action. Returns whether the rest of the turn is
+        /// skipped. It needs 24 free places in `events`.
+        #[inline(never)] // docs/SPEED.md, "Hints on inlining"
+        pub fn act_and_suffer_as<R: Rolls, S: EventSink>(
+            battle: &mut Packed,
+            side: Side,
+            pick: Pick,
+            known: &mut Known,
+            random: &mut R,
+            events: &mut S,
+        ) -> bool {
+            *known = known.begun(side);
+            if known.skips {
+                return suffer_unless_over(battle, side, events);
+            }
+            if act(battle, side, pick, known, random, events) {
+                return true;
+            }
+            suffer(battle, side, events)
+        }
+
+        /// Sends out a member of `side`, and then takes its residual damage ([docs/MECHANICS.md, "Order of a turn"](https://hibsuloy.example/gen1/blob/main/docs/MECHANICS.md#order-of-a-turn)).
+        ///
+        /// Returns whether the rest of the turn is skipped. It needs 4 free places in `events`.
+        #[inline(always)] // docs/SPEED.md, "Hints on inlining"
+        pub(crate) fn sends_and_suffers<S: EventSink>(
+            battle: &mut Packed,
+            side: Side,
+            place: Place,
+            known: &mut Known,
+            events: &mut S,
+        ) -> bool {
+            *known = known.begun(side);
+            let is_hurt = is_hurt_at(battle, side, place);
+            send_out(battle, side, place, events);
+            suffer_if(battle, side, is_hurt, events)
+        }
+
+        // Whether residual damage will take HP from a member that comes out. No seed is on it.
+        #[inline(always)] // docs/SPEED.md, "Hints on inlining"
+        fn is_hurt_at(battle: &Packed, side: Side, place: Place) -> bool {
+            let at = place.number();
+            takes_hp(battle.status_at(side, at))
+        }
+
+        fn takes_hp(status: Status) -> bool {
+            matches!(status, Status::Poisoned | Status::Burned)
+        }
+
+        // A side's residual damage after a skipped action. Few actions are skipped.
+        #[inline(never)] // docs/SPEED.md, "Hints on inlining"
+        fn suffer_unless_over<S: EventSink>(battle: &mut Packed, side: Side, events: &mut S) -> bool {
+            if battle.outcome().is_over() {
+                return true;
+            }
+            suffer(battle, side, events)
+        }
+
+        // A side's residual damage in a battle that continues, unless an active member has fallen. Returns whether the turn is
+        // cut now.
+        #[inline(always)] // docs/SPEED.md, "Hints on inlining"
+        fn suffer<S: EventSink>(battle: &mut Packed, side: Side, events: &mut S) -> bool {
+            if one_has_fallen(battle) {
+                return true;
+            }
+            let is_hurt = suffers(battle, side);
+            suffer_if(battle, side, is_hurt, events)
+        }
+
+        // A side's residual damage in a turn that isn't cut, if there is any. Returns whether the turn is cut now.
+        #[inline(always)] // docs/SPEED.md, "Hints on inlining"
+        fn suffer_if<S: EventSink>(battle: &mut Packed, side: Side, is_hurt: bool, events: &mut S) -> bool {
+            if !is_hurt {
+                return false;
+            }
+            residual(battle, side, events);
+            one_has_fallen(battle)
+        }
+
+        // Whether an active member has fallen.
+        #[cfg_attr(not(target_family = "wasm"), inline(always))] fn one_has_fallen(battle: &Packed) -> bool {
+            battle.has_fallen(Side::One) || battle.has_fallen(Side::Two)
+        }
+
+        /// Ends a turn whose rest was not skipped: trapping with a count of 0 ends ([docs/MECHANICS.md, "Order of a turn"](https://hibsuloy.example/gen1/blob/main/docs/MECHANICS.md#order-of-a-turn)).
+        pub fn end_turn(battle: &mut Packed) {
+            end_spent_trapping(battle, Side::One);
+            end_spent_trapping(battle, Side::Two);
+        }
+
+        pub(crate) fn end_spent_trapping(battle: &mut Packed, side: Side) {
+            if is_spent(battle.trapping(side)) {
+                battle.end_trapping(side);
+            }
+        }
+
+        fn is_spent(count: Option<u8>) -> bool {
+            count == Some(0)
+        }
+    }
+
+
+    pub use choices::{end_flinch, set_picked};
+    pub use order::first_side;
+    pub use parts::{act_and_suffer_as, end_turn};
+
+    use by_side::BySide;
+    use choices::take_turn;
     use crate::generated::events::EventSink;
     use crate::generated::hits::Known;
     use crate::generated::layout::Packed;
@@ -910,86 +991,8 @@ mod turn_update {
     }
 }
 
-mod used_move {
-    //! The use of a move: it becomes the current one, and costs PP ([docs/MECHANICS.md, "Action"](https://hibsuloy.example/gen1/blob/main/docs/MECHANICS.md#action), step 4).
-
-    use crate::generated::events::{EventSink, Untested};
-    use crate::generated::hits::Known;
-    use crate::generated::layout::Packed;
-    use crate::generated::machine::{Pick, Side, UsedMove};
-    use crate::generated::multiturn::make_current;
-    use crate::generated::status::among_slots;
-    use crate::generated::tables::MoveId;
-
-    // The user uses its move. A move of Bide's effect writes no event.
-    #[inline(always)] // docs/SPEED.md, "Hints on inlining"
-    pub(crate) fn use_move<S: EventSink>(
-        battle: &mut Packed,
-        side: Side,
-        pick: Pick,
-        id: MoveId,
-        known: &Known,
-        events: &mut S,
-    ) {
-        take_up(battle, side, pick);
-        spend_pp_unless_going(battle, side, known);
-        note_move(battle, side, id, events);
-    }
-
-    // A picked move becomes the current one. A move that continues is that already.
-    fn take_up(battle: &mut Packed, side: Side, pick: Pick) {
-        match pick {
-            Pick::Use(_) => make_current(battle, side, pick),
-            Pick::Continue => {}
-            Pick::Idle => {}
-            Pick::Held => {}
-        }
-    }
-
-    fn spend_pp_unless_going(battle: &mut Packed, side: Side, known: &Known) {
-        if known.going_on {
-            return;
-        }
-        spend_pp(battle, side, battle.current_move(side));
-    }
-
-    fn spend_pp(battle: &mut Packed, side: Side, used: UsedMove) {
-        match used {
-            UsedMove::Nothing => {}
-            UsedMove::Struggle => {}
-            UsedMove::Slot(slot) => spend_pp_of(battle, side, slot),
-        }
-    }
-
-    fn spend_pp_of(battle: &mut Packed, side: Side, slot: u8) {
-        let slot = among_slots(slot);
-        let left = less_pp(battle.pp(side, slot));
-        battle.put_pp(side, slot, left);
-    }
-
-    // PP have six bits, so 63 follows 0.
-    fn less_pp(pp: u8) -> u8 {
-        match pp {
-            0 => 63,
-            _ => pp - 1,
-        }
-    }
-
-    fn note_move<S: EventSink>(battle: &Packed, side: Side, id: MoveId, events: &mut S) {
-        if id.effect().bides() {
-            return;
-        }
-        let species = battle.species_number(side);
-        let foe = battle.species_number(side.other());
-        events.push_untested(Untested::Move(side, species, id, foe));
-    }
-}
-
 
 pub use action::act;
 pub use crate::generated::offers::{Choices, offered};
 pub use crate::generated::switching::{replace, send_out, start};
-pub use turn_choices::{end_flinch, set_picked};
-pub use turn_order::first_side;
-pub use turn_parts::{act_and_suffer_as, end_turn};
-pub use turn_update::turn;
+pub use turn_update::{act_and_suffer_as, end_flinch, end_turn, first_side, set_picked, turn};
