@@ -335,7 +335,7 @@ enum {
     GEN1_ERROR_HOST_LOG = 81,       /* the log has more than 512 bytes, or is no log */
     GEN1_ERROR_HOST_CHOICE_ONE = 82, /* side 1's choice is not offered, or is missing though nothing is asked */
     GEN1_ERROR_HOST_CHOICE_TWO = 83, /* side 2's choice is not offered, or is missing though nothing is asked */
-    GEN1_ERROR_HOST_CHOICES = 84,   /* both choices are there while the battle goes on */
+    GEN1_ERROR_HOST_CHOICES = 84,   /* both choices are there while the battle continues */
     GEN1_ERROR_HOST_TELLER_ONE = 85, /* the teller of side 1 is another's, or its places are out of order */
     GEN1_ERROR_HOST_TELLER_TWO = 86, /* the teller of side 2 is another's, its places are out of order, or its form of HP differs */
     GEN1_ERROR_HOST_ENDING = 87,    /* the ending is above 3 */
@@ -556,7 +556,7 @@ typedef struct gen1_told {
 typedef struct gen1_narrator {
     gen1_told one;    /* of side 1 */
     gen1_told two;    /* of side 2 */
-    uint8_t you;      /* the side that is told, 1 or 2: "Your Tauros", "The foe's Tauros"; else "Side 1's Tauros" */
+    uint8_t you;      /* the side that reads, 1 or 2: "Your Tauros", "The foe's Tauros"; else "Side 1's Tauros" */
     uint8_t reserved; /* ignored */
 } gen1_narrator;
 
@@ -696,8 +696,8 @@ uint8_t gen1_action_odds_now(const gen1_battle *battle, uint8_t side, uint8_t mo
  * ways, and in `twice` of `twice_of`. All ways are equally likely.
  *
  * If the foe has a substitute, it is the chance to break the substitute. Both uses have the odds that gen1_odds_now returns, and
- * their damages add up; the second Super Fang halves the HP that are left. A trapping move that hits goes on: the second use deals
- * the same damage again, without a test; one that goes on already is taken to go on. Nothing else that happens between the uses is
+ * their damages add up; the second Super Fang halves the HP that are left. A trapping move that hits continues: the second use deals
+ * the same damage again, without a test; one that is continuing is taken to continue. Nothing else that happens between the uses is
  * counted: no residual damage, no change of a stat, no recharging, and no fainting of the user.
  */
 typedef struct gen1_chances {
@@ -1733,7 +1733,7 @@ typedef struct gen1_message {
     uint16_t log_length;        /* 0 to 512: how many bytes of `log` belong to the last pair */
     uint8_t draw;               /* the side that offers a draw, or 0 */
     uint8_t unused[3];          /* 0 */
-    uint8_t log[GEN1_LOG_ROOM]; /* the log of the last pair as the side is told it, then zeros */
+    uint8_t log[GEN1_LOG_ROOM]; /* the log of the last pair as reported to the side, then zeros */
 } gen1_message;
 
 #define GEN1_MESSAGE_SIZE 696 /* the size of a gen1_message, for other languages; its alignment is 4 */

@@ -288,7 +288,7 @@ export interface ActionOdds {
 
 /**
  * The chance that one use of a move knocks out the foe, or two uses in a row, with draws that are equally likely: in `once` of `onceOf` ways,
- * and in `twice` of `twiceOf`, which are exact. A trapping move that hits goes on: the second use deals the same damage again. Nothing else
+ * and in `twice` of `twiceOf`, which are exact. A trapping move that hits continues: the second use deals the same damage again. Nothing else
  * that happens between the uses is counted.
  */
 export interface KnockOut {

@@ -145,7 +145,7 @@ CODES = (
     ),
     (
         "DamageFault",
-        "Why there is no damage, of `NoDamage.code`.",
+        "Why a move deals no damage, of `NoDamage.code`.",
         "ERROR_UNUSUAL",
         "ERROR_NOBODY_OUT",
         "ERROR_",
@@ -167,7 +167,7 @@ CODES = (
         "ASLEEP_BY_",
         {},
     ),
-    ("HpForm", "How a foe's HP is told, of `Teller` and `Host`.", "HP_EXACT", "HP_HUNDREDTHS", "HP_", {}),
+    ("HpForm", "How a foe's HP is reported, of `Teller` and `Host`.", "HP_EXACT", "HP_HUNDREDTHS", "HP_", {}),
     ("OddsReason", "Why a use of a move cannot hit, of `Odds.reason`.", "ODDS_FALLEN", "ODDS_HEALTH", "ODDS_", {}),
     (
         "StateField",

@@ -11,7 +11,7 @@ import {span} from "./words.js";
 const VISIBLE = 0.0005;
 /** How many uses a line considers, and for how many numbers of uses it has chances. */
 const [USES, NAMED] = [9, 3];
-/** The moves that go on for 1 to 4 uses more after one that hits, with its damage; and the chance of each number. */
+/** The moves that continue for 1 to 4 uses more after one that hits, with its damage; and the chance of each number. */
 const [TRAPPING, GOES_ON] = [["Bind", "Clamp", "Fire Spin", "Wrap"], [0.375, 0.375, 0.125, 0.125]];
 const HELD = 8192;
 const SHORT = ["atk", "def", "spe", "spc", "acc", "eva"];

@@ -127,7 +127,7 @@ by_answer (Accepted events) next old new room log count code h =
       reading = record { codes = refl; ranges = told.1.ranges };
     }
 
--- the battle goes on in the next state
+-- the battle continues in the next state
 pub goes : (s : State) (u : Update) (old new : Parts) (room log : List ℕ) (before count code : ℕ) → Stands old s
     → UpdatesAs (stepped s u).answer (stepped s u).state (record { battle = old; log = room; count = before }) (record { battle = new; log = log; count = count }) code
     → Stands new (stepped s u).state

@@ -28,7 +28,7 @@ abbrev pub named : List ℕ → ℕ → ℕ → ℕ → List ℕ → Result (Lis
 named word digit last number name =
     if nat_le 1 number && nat_le number last then Ok ((word ++ ((48 + digit) ∷ codes " ")) ++ name) else Err 44
 
--- before the first update no member is out, so there are no moves
+-- before the first update no member is out, so none has moves
 abbrev pub move_words : Side → ℕ → Field → Result (List ℕ) ℕ
 move_words side slot f =
     if slot == 0 then Ok (codes "move 0")

@@ -48,7 +48,7 @@ pub mod Rooms
 pub mod Hosts
 -- The odds of a move.
 pub mod Odds
--- What a player knows, and what it is told.
+-- What a player knows, and what is reported to it.
 pub mod Players
 -- All calls that play a battle.
 pub mod TheTheorem

@@ -19,7 +19,7 @@ pub struct PlayoutForm {
     /// The number of updates after which a round is decided by the HP left, or 0 to play each round to its end.
     pub depth: u32,
     /// How often each choice is made compared to others: by the move's number, where Move 0 counts as Struggle, 165. The first is
-    /// the weight of each switch. Where all have the weight 0, all are alike.
+    /// the weight of each switch. Where all have the weight 0, each is equally likely.
     pub weights: [u8; 166],
     /// Ignored.
     pub reserved: [u8; 2],

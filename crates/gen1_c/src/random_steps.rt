@@ -102,7 +102,7 @@ fn start_again(battle: &mut Packed, starts: &[Packed], place: usize, random: &mu
     }
 }
 
-// A copy of a start that draws from ten numbers of its own, as a round of gen1_playout begins.
+// A copy of a start that draws from its own ten numbers, as a round of gen1_playout begins.
 fn restart(battle: &mut Packed, start: &Packed, random: &mut ChoiceGenerator)
     ensures { (s : State) → Stands start.now s
         → IsAt (begun s random.old.state) battle.new random.new.state }

@@ -16,7 +16,7 @@ use Rattle.gen1_host.proofs.QuietRows.{as_submission, cancel_reply, cancel_row_a
 use Rattle.gen1_host.proofs.EndedPairs.{closed_table, goes}
 use Rattle.gen1_host.proofs.Secrecy.{no_truth}
 
--- 1. What the audience can foretell
+-- 1. What the audience can predict
 
 abbrev public_next : Row → Notice → Notice
 public_next (OfferDraw side) n = record n { draw = offered_by side n.draw }

@@ -1,4 +1,4 @@
--- Rows that are no submissions, and the rows of both kinds together: what a side sees of each that ends no pair.
+-- Rows other than submissions, and the rows of both kinds together: what a side sees of each that ends no pair.
 use Rattle.std.proofs.Common.{Bool, List, None, Option, Some, [], ap, arith, false, inl, inr, is_some, refl, subst, sym, true, ℕ, ◌++◌, ◌+◌, ◌==◌, ◌≡◌, ◌∙◌, ◌∷◌, ◌⊎◌, ◌&&◌, ◌||◌}
 use Rattle.std.specs.Prelude.{cond, filter, if◌then◌else◌, is_none, not}
 use Rattle.std.proofs.lemmas.Bool.Decides.{nat_tests}

@@ -19,7 +19,7 @@ use Rattle.gen1_host.proofs.QuietSubmissions.{foretold_submit, Foretold, hidden_
 use Rattle.gen1_host.proofs.QuietRows.{as_submission, draw_quiet, foretold_cancel, forfeit_ends, hidden_cancel, late_quiet, off, on, own_cancel, seen_cancel, seen_draw}
 use Rattle.gen1_host.proofs.EndedPairs.{closed_reply, closed_table, ends_it, fresh, goes}
 
--- 1. What a side can foretell of a row that ends no pair, from what it sees
+-- 1. What a side can predict of a row that ends no pair, from what it sees
 
 abbrev due_submission : Side → ℕ → Seen → Submission
 due_submission side number v = submission_of side number (first_byte (if is_some v.chosen then [] else v.message.choices))

@@ -1,4 +1,4 @@
--- A table: two players, what each was told, how it may end, and what becomes of it by each row.
+-- A table: two players, what was reported to each, how it may end, and what becomes of it by each row.
 pub mod Table
 -- What each side and the audience are sent.
 pub mod Messages

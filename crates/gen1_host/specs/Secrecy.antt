@@ -54,7 +54,7 @@ EndAlike s (rows ∷ more) t u =
     ((ends_pair rows.0 t || ends_pair rows.1 u) ≡ true → message s (after_row rows.0 t) ≡ message s (after_row rows.1 u))
     × EndAlike s more (after_row rows.0 t) (after_row rows.1 u)
 
--- What a side receives: the reply to each row of its own, and what it sees after each row.
+-- What a side receives: the reply to each of its rows, and what it sees after each row.
 pub record Received : Type 0 where
   pub reply : Option HostReply
   pub seen : Seen

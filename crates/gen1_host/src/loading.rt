@@ -21,7 +21,7 @@ use gen1_room::plain::PlainRoom;
 /// Why bytes are not those of a host: the first of these tests that they fail.
 #[derive(Clone, Copy, Debug, PartialEq, Eq)]
 pub enum HostFault {
-    /// The battle, and the first of its own tests that it fails.
+    /// The battle, and the first of its tests that it fails.
     Battle(LoadFault),
     /// The number of the current pair. It leaves no place for the pairs that may still come.
     Number,

@@ -78,7 +78,7 @@ fn go_on(host: &mut Host, next: PlainRoom)
     host.room = next;
 }
 
-// Both tellers tell the log of the last pair.
+// Both tellers report the log of the last pair.
 fn meet_last(host: &mut Host)
     ensures hosts { (t : Table) → Hosts host.old t
         → Hosts host.new (record t { one = meets_all t.course.events t.one; two = meets_all t.course.events t.two; draw = None }) }

@@ -1,4 +1,4 @@
--- Moves with a damage rule of their own, by the draw of their hit test.
+-- Moves with their own damage rule, by the draw of their hit test.
 use Rattle.std.proofs.Common.{Bool, None, Option, Some, ap, false, min, not, refl, sym, true, ℕ, ◌*◌, ◌+◌, ◌∙◌, ◌||◌, ◌≡◌}
 use Rattle.gen1_rolls.specs.Streams.{byte_at, first, span}
 use Rattle.gen1_machine.specs.declared.side.Side.{Side}
@@ -18,7 +18,7 @@ use Rattle.gen1_odds.specs.Laws.{misses, Acting, CounterCounts, FixedCounts, Imm
 use Rattle.gen1_odds.specs.Trials.{goes_on_in, is_slower_in}
 use Rattle.gen1_odds.proofs.Tested.{hit-goes, hit-late, hit-misses}
 
--- The last damage matters neither to the test nor to whether a move goes on.
+-- The last damage matters neither to the test nor to whether a move continues.
 
 goes_on-apart : (s : Side) (move : Move) (n : ℕ) (f : Field) → goes_on_in s move (with_last_damage n f) ≡ goes_on_in s move f
 unfolding with_last_damage

@@ -111,7 +111,7 @@ must-misses s move p a =
     ap ends (then-goes (hit_or_miss s move) (when has_missed (note_miss s move ▸ stop)) p goes)
     ∙ ended s move (hit_or_miss s move p) (misses s move p.field (byte_at p.stream p.drawn)) goes (hit-misses s move p a)
 
--- What follows a hit goes on.
+-- An action continues after a hit.
 
 after-hit : (s : Side) (move : Move) (k : Phase) (p : Progress) (x : Bool) → ((q : Progress) → q.stopped ≡ false → (k q).stopped ≡ false)
     → (must_hit s move p).stopped ≡ x → ((must_hit s move ▸ k) p).stopped ≡ x

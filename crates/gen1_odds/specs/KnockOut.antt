@@ -63,7 +63,7 @@ abbrev pub after_usual : HitCount → Odds → (ℕ → ℕ) → ℕ → ℕ
 after_usual count o next need =
     mixed o.hit_draws (by_count count λ hits. after_either o hits next need) (79872 * next need)
 
--- Damage by a rule of its own: each number from the least to the most
+-- Damage by its own rule: each number from the least to the most
 
 -- Super Fang takes half of the HP that are left.
 abbrev pub taken : Bool → ℕ → ℕ → ℕ
@@ -98,7 +98,7 @@ two_uses after most change = after (after_change most change (after over))
 abbrev pub three_uses : ((ℕ → ℕ) → ℕ → ℕ) → ℕ → Between → ℕ → ℕ
 three_uses after most between = after (after_change most between.after_first (two_uses after most between.after_second))
 
--- Trapping: a use that hits goes on. The next deals the same damage again, in each of its ways.
+-- Trapping: a use that hits continues. The next deals the same damage again, in each of its ways.
 
 -- Over the damages of a hit that may be critical, with what is then needed.
 abbrev pub after_each : Odds → (ℕ → ℕ → ℕ) → ℕ → ℕ
@@ -117,7 +117,7 @@ two_trapping o most change need =
     (8 * after_each o (λ damage left. 20447232 * over (again most change damage left)) need)
     (79872 * after_usual Once o over (changed most change need))
 
--- The third use goes on too with 5 chances of 8, and is otherwise a new one.
+-- The third use continues too with 5 chances of 8, and is otherwise a new one.
 abbrev pub third_trapping : Odds → ℕ → HpChange → ℕ → ℕ → ℕ
 third_trapping o most change damage need =
     5 * (20447232 * over (again most change damage need)) + 3 * after_usual Once o over (changed most change need)

@@ -36,7 +36,7 @@ abbrev pub damages_or : Option (List ℕ) → Damages
 damages_or (Some list) = record { numbers = list; count = 39; code = 0 }
 damages_or None = no_damages 49
 
--- Trapping that goes on repeats its damage, in place of the usual.
+-- Trapping that continues repeats its damage, in place of the usual.
 abbrev pub deals_usual : Side → Move → Field → Bool
 deals_usual s move f = has_usual_damage move && not (traps_on_in s move f)
 
@@ -45,9 +45,9 @@ abbrev pub damages_in : Side → Move → Bool → Field → Damages
 damages_in side move critical f =
     if deals_usual side move f then damages_or (damages (numbers_in side move critical f)) else no_damages 48
 
--- Damage by a rule of its own: from the first number to the second
+-- Damage by its own rule: from the first number to the second
 
--- Psywave deals at least 1, and less than one and a half times the level. At level 1 there is no such number.
+-- Psywave deals at least 1, and less than one and a half times the level. At level 1 the range is empty.
 abbrev pub psywave_range : ℕ → ℕ × ℕ
 psywave_range level = (min 1 (level * 3 / 2 - 1), level * 3 / 2 - 1)
 
@@ -110,11 +110,11 @@ abbrev pub hits_by : Option Bool → ℕ → ℕ → Bool
 hits_by (Some hits) byte draw = hits
 hits_by None byte draw = nat_lt draw byte
 
--- Whether a draw passes the hit test, of a new use or of a move that goes on.
+-- Whether a draw passes the hit test, of a new use or of a move that continues.
 abbrev pub passes : Side → Move → Field → ℕ → Bool
 passes side move f draw = hits_by (settled_hit_in side move f) (scaled_in side (base_in side move f) f) draw
 
--- A sleep move takes no test against a foe that has to recharge, and trapping that goes on takes none at all.
+-- A sleep move takes no test against a foe that has to recharge, and trapping that continues takes none at all.
 
 abbrev pub is_sleep : Trial → Bool
 is_sleep trials.Sleep = true

@@ -64,7 +64,7 @@ abbrev pub usual_reason : Side → Move → Field → Option Reason
 usual_reason s move f =
     if hurts_in s move false f || hurts_in s move true f then settled_reason s move f else Some (why_harmless s move f)
 
--- Damage by a rule of its own
+-- Damage by its own rule
 
 abbrev pub one_hit_reason : Side → Move → Field → Option Reason
 one_hit_reason s move f =
@@ -197,7 +197,7 @@ reason_by r s move f trials.Substitute = substitute_reason s f
 reason_by r s move f trials.Always = None
 reason_by r s move f trials.Usual = usual_reason s move f
 
--- Nobody acts on a member that has fallen. Trapping that goes on lands in any case.
+-- Nobody acts on a member that has fallen. Trapping that continues lands in any case.
 abbrev pub reason_in : Rules → Side → Move → Field → Option Reason
 reason_in r s move f =
     if has_fallen_in s f || has_fallen_in (other s) f then Some reasons.Fallen

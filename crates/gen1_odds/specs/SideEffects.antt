@@ -19,7 +19,7 @@ unless_guarded guarded bound = if guarded then 0 else bound
 abbrev pub poison_draws : Side → Field → ℕ → ℕ
 poison_draws foe f bound = unless_guarded (has_status_in foe f || has_type Poison (active_in foe f)) bound
 
--- A status doesn't replace another, nor harm a foe of the move's own type.
+-- A status doesn't replace another, nor does a foe of the move's own type get one.
 abbrev pub resists_status : Side → Move → Field → Bool
 resists_status s move f = has_status_in (other s) f || has_type move.kind (active_in (other s) f)
 

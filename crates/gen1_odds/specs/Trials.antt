@@ -52,7 +52,7 @@ trial_of _ = trials.Usual
 abbrev pub ReadsUnder : {A : Type 0} → Parts → A → (Rules → Field → A) → Type 0
 ReadsUnder parts value read = (g : Setting) (f : Field) → Within g parts f → value ≡ read g.terms.rules f
 
--- A move goes on if it is the one that rage, thrashing or trapping continues. Its accuracy is then the kept one.
+-- A move continues if it is the one that rage, thrashing or trapping continues. Its accuracy is then the kept one.
 
 abbrev pub goes_on_in : Side → Move → Field → Bool
 goes_on_in s move f = keeps_going (underway_in s f) && (move_taken_in s Continue f).number == move.number
@@ -60,7 +60,7 @@ goes_on_in s move f = keeps_going (underway_in s f) && (move_taken_in s Continue
 abbrev pub base_in : Side → Move → Field → ℕ
 base_in s move f = if goes_on_in s move f then (active_in s f).kept_accuracy else accuracy_byte move
 
--- Trapping that goes on lands its last damage again, without a test.
+-- Trapping that continues lands its last damage again, without a test.
 abbrev pub traps_on_in : Side → Move → Field → Bool
 traps_on_in s move f = traps move.effect && goes_on_in s move f
 

@@ -22,7 +22,7 @@ use gen1_stats::Status;
 use gen1_status::used_by;
 use gen1_tables::MoveId;
 
-/// The chances that a member acts in a turn and that its move then hits, holds or harms, as exact counts of draws.
+/// The chances that a member acts in a turn and that its move then hits, holds or has its side effect, as exact counts of draws.
 #[repr(C)]
 #[derive(Clone, Copy)]
 pub struct ActionOdds {

@@ -42,7 +42,7 @@ fn acts_untested(effect: Effect) -> bool
     )
 }
 
-/// Whether the use deals the usual damage. Trapping that goes on repeats its damage, in place of that.
+/// Whether the use deals the usual damage. Trapping that continues repeats its damage, in place of that.
 pub(crate) fn deals_usual(battle: &Packed, side: Side, id: MoveId) -> bool
     ensures stands { Reads battle.now result (deals_usual side (move_at id)) }
 {
@@ -86,7 +86,7 @@ fn is_tested(battle: &Packed, side: Side, id: MoveId) -> bool
     takes & !skips
 }
 
-// A sleep move takes no test against a foe that has to recharge, and trapping that goes on takes none at all.
+// A sleep move takes no test against a foe that has to recharge, and trapping that continues takes none at all.
 fn skips_test(battle: &Packed, side: Side, id: MoveId) -> bool
     ensures stands { Reads battle.now result (skips_test side (move_at id)) }
 {

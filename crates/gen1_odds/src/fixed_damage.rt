@@ -1,4 +1,4 @@
-//! Damage by a rule of its own (docs/MECHANICS.md, "Fixed damage and one-hit moves", "Counter", "Going on").
+//! Damage by a move's own rule (docs/MECHANICS.md, "Fixed damage and one-hit moves", "Counter", "Going on").
 ghost use Rattle.std.specs.Prelude.{◌≡◌};
 ghost use Rattle.gen1_layout.specs.Words.{Reads, member_in, move_at};
 ghost use Rattle.gen1_machine.specs.FixedDamage.{half_hp};

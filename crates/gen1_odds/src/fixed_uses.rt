@@ -1,4 +1,4 @@
-//! In how many ways one to three uses with a damage rule of their own take the HP that are needed (docs/MECHANICS.md, "Fixed damage
+//! In how many ways one to three uses with their own damage rule take the HP that are needed (docs/MECHANICS.md, "Fixed damage
 //! and one-hit moves").
 ghost use Rattle.std.specs.Prelude.{max, min, sum_by, ◌*◌, ◌+◌, ◌-◌, ◌/◌, ◌≡◌, ◌≤◌, ℕ};
 ghost use Rattle.std.specs.List.{range_with_len};

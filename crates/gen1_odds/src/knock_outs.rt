@@ -87,7 +87,7 @@ struct Target {
 /// Against a substitute it is the chance to break it. Both uses have the odds of `odds_of`, as the battle is now, and
 /// their damages add up: what else happens in between, such as residual damage, does not count. The second use of Super
 /// Fang halves the HP that are left. A trapping move that hits deals the same damage again in the second use, and one that
-/// goes on already is taken to go on.
+/// is continuing is taken to continue.
 pub fn knock_out(battle: &Packed, side: Side, id: MoveId) -> Chances
     ensures stands { ReadsUnder battle.now result λ r. chances_in r side (move_at id) }
     // For any bytes, valid or not.
@@ -106,7 +106,7 @@ pub fn knock_out(battle: &Packed, side: Side, id: MoveId) -> Chances
 ///
 /// Each use has the odds of `odds_of`, as the battle is now. Between two uses the HP of the foe change as `between` says:
 /// of a foe that has any, they first rise, to its maximum at most, and then fall. The third use of Super Fang halves what
-/// is left then, and a trapping move goes on as often as its draws let it. Against a substitute it is the chance to break
+/// is left then, and a trapping move continues as often as its draws let it. Against a substitute it is the chance to break
 /// it, and `between` does not count. Nothing else that happens between the uses counts.
 pub fn knock_out_in_three(
     battle: &Packed,
@@ -262,7 +262,7 @@ fn room(hp: u16) -> u16
     hp.saturating_add(1).min(1000)
 }
 
-// Damage by a rule of its own
+// Damage by the move's own rule
 
 #[tactic(auto, using(crate::proofs::Sums::known_none))]
 fn fixed_chances(odds: &Odds, halves: bool, need: u16, breaks_substitute: u8) -> Chances

@@ -4,8 +4,8 @@
 //! - `odds`: [`Odds`] of a move, for the two members that are out
 //! - `knock_outs`: the chances that one to three uses knock out the foe
 //! - `usual_uses`: in how many ways they do so with the usual damage
-//! - `trapping_uses`: the same of trapping, which goes on
-//! - `fixed_uses`: the same with a damage rule of their own
+//! - `trapping_uses`: the same of trapping, which continues
+//! - `fixed_uses`: the same with their own damage rule
 //! - `ways`: numbers of ways, and the HP that are left between uses
 //! - `reasons`: why a use can't hit
 //! - `status_reasons`: the same for moves that give a status
@@ -14,9 +14,9 @@
 //! - `acting`: [`ActionOdds`], of a member that may be kept from acting
 //! - `side_effects`: how many draws give a hit its side effect
 //! - `chances`: the numbers of draws, and [`takes_hit_test`]
-//! - `fixed_damage`: damage by a rule of its own
+//! - `fixed_damage`: damage by a move's own rule
 //! - `hit_counts`: the number of hits, and what a damage gives back or costs
-//! - `trials`: the kinds of use of a move, and whether it goes on
+//! - `trials`: the kinds of use of a move, and whether it continues
 //! - `sights`: what a use finds in a battle
 //! - `laws`: what the odds say of the machine's own phases
 #![tactic(auto)]

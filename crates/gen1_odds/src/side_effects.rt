@@ -94,7 +94,7 @@ fn freeze_draws(battle: &Packed, side: Side, id: MoveId) -> u16
     unless_guarded(resists | clause, FREEZE)
 }
 
-// A status doesn't replace another, nor harm a foe of the move's own type.
+// A status doesn't replace another, nor does a foe of the move's own type get one.
 fn resists_status(battle: &Packed, side: Side, id: MoveId) -> bool
     ensures stands { Reads battle.now result (resists_status side (move_at id)) }
 {

@@ -1,5 +1,5 @@
 //! In how many ways two or three uses of a trapping move take the HP that are needed (docs/MECHANICS.md, "Going on"). A use
-//! that hits goes on: the next deals the same damage again.
+//! that hits continues: the next deals the same damage again.
 ghost use Rattle.std.specs.Prelude.{◌*◌, ◌+◌, ◌-◌, ◌≡◌, ◌≤◌};
 ghost use Rattle.std.specs.List.{sum_by};
 ghost use Rattle.gen1_odds.specs.KnockOut.{after_each, again, over, third_trapping, three_trapping, two_trapping};
@@ -100,7 +100,7 @@ fn thrice_hits(odds: &Odds, list: &[u16; 39], most: u16, between: &Between, need
     ways
 }
 
-// The third use goes on too with 5 chances of 8, and is otherwise a new one.
+// The third use continues too with 5 chances of 8, and is otherwise a new one.
 fn third(odds: &Odds, most: u16, change: HpChange, damage: u16, need: u16) -> u64
     requires critical { odds.now.critical_draws ≤ 255 }
     requires hits { odds.now.hit_draws ≤ 256 }

@@ -1,4 +1,4 @@
-//! The kinds of use of a move, and whether it goes on (docs/MECHANICS.md, "Going on", "Kept accuracy").
+//! The kinds of use of a move, and whether it continues (docs/MECHANICS.md, "Going on", "Kept accuracy").
 ghost use Rattle.std.specs.Prelude.{◌≡◌};
 ghost use Rattle.gen1_layout.specs.Words.{Reads, active_in, member_in, move_at};
 ghost use Rattle.gen1_machine.specs.Picks.{number_in};
@@ -86,7 +86,7 @@ fn goes_on(battle: &Packed, side: Side, id: MoveId) -> bool
     keeps & same
 }
 
-/// Whether the move is trapping that goes on.
+/// Whether the move is trapping that continues.
 pub(crate) fn traps_on(battle: &Packed, side: Side, id: MoveId) -> bool
     ensures stands { Reads battle.now result (traps_on_in side (move_at id)) }
 {

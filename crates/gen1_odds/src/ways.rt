@@ -61,7 +61,7 @@ pub(crate) fn mixed(draws: u16, one: u64, another: u64) -> u64
     u64::from(draws) * one + u64::from(256 - draws) * another
 }
 
-// The same of more ways.
+// Of more ways.
 pub(crate) fn mixed_wide(draws: u16, one: u128, another: u128) -> u128
     requires draws { draws ≤ 256 }
     requires one { one ≤ 1267650600228229401496703205376 }

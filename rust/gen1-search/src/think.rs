@@ -338,7 +338,7 @@ struct Share {
 
 impl Share {
     fn new(options: &ThinkOptions<'_>, at: usize, trees: usize, threads: usize) -> Self {
-        // Trees that have no thread of their own are searched one after the other.
+        // Trees that share a thread are searched one after the other.
         let rounds = trees.div_ceil(threads.max(1)) as u32;
         let _ = rounds;
         let more = u64::from((at as u64) < options.nodes % trees as u64);
@@ -492,7 +492,7 @@ fn most(weights: &[f32]) -> usize {
         .map_or(0, |it| it.0)
 }
 
-/// A choice in words, such as `Body Slam`, `switch to Starmie`, `pass`, or `no choice` where a side goes on or can't choose a move.
+/// A choice in words, such as `Body Slam`, `switch to Starmie`, `pass`, or `no choice` where a side continues or can't choose a move.
 #[must_use]
 pub fn choice_words(battle: &Battle, side: Side, choice: Choice) -> String {
     let state = battle.state();

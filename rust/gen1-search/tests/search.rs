@@ -226,7 +226,7 @@ fn what_is_not_searched_is_in_the_interval() {
     );
     let early = solver.value(&battle).unwrap();
     assert!(early.contains(0.5) && early.width() > 0.5);
-    // A run goes on where it was stopped.
+    // A run continues where it was stopped.
     assert_eq!(solver.run(|_| true), Ok(Stopped::Solved));
 }
 

@@ -259,7 +259,7 @@ impl Battle {
     /// The exact chance that a side's move knocks out the foe, with one use and with two in a row, in the current state of both active
     /// members. Against a Substitute it is the chance to break it.
     ///
-    /// The draws are taken as independent. A trapping move that hits goes on: the second use deals the same damage again. Nothing else that
+    /// The draws are taken as independent. A trapping move that hits continues: the second use deals the same damage again. Nothing else that
     /// happens between the two uses counts, such as residual damage.
     ///
     /// ```

@@ -597,7 +597,7 @@ fn felled(battle: &Battle, updates: u8) -> (u128, u128) {
     }))
 }
 
-/// A trapping move that hits goes on: it deals its damage again, once to four times.
+/// A trapping move that hits continues: it deals its damage again, once to four times.
 #[cfg(feature = "alloc")]
 #[test]
 fn uses_of_a_trapping_move_in_a_row() {

@@ -556,7 +556,7 @@ class HostFault(Named):
     LOG = 81, "the log has more than 512 bytes, or is no log"
     CHOICE_ONE = 82, "side 1's choice is not offered, or is missing though nothing is asked"
     CHOICE_TWO = 83, "side 2's choice is not offered, or is missing though nothing is asked"
-    CHOICES = 84, "both choices are there while the battle goes on"
+    CHOICES = 84, "both choices are there while the battle continues"
     TELLER_ONE = 85, "the teller of side 1 is another's, or its places are out of order"
     TELLER_TWO = 86, "the teller of side 2 is another's, its places are out of order, or its form of HP differs"
     ENDING = 87, "the ending is above 3"
@@ -645,7 +645,7 @@ class TextFault(Named):
 
 
 class DamageFault(Named):
-    """Why there is no damage, of `NoDamage.code`."""
+    """Why a move deals no damage, of `NoDamage.code`."""
 
     SIDE = 40, "the side is neither 1 nor 2"
     MOVE = 11, "a move is not 1 to 165"
@@ -716,7 +716,7 @@ class AsleepBy(Named):
 
 
 class HpForm(Named):
-    """How a foe's HP is told, of `Teller` and `Host`."""
+    """How a foe's HP is reported, of `Teller` and `Host`."""
 
     EXACT = 0, "as it is"
     BAR = 1, "as the game's bar of 48 pixels shows it; the maximum is 48"

@@ -135,7 +135,7 @@ enum Rule {
     Alone,
     /// Each damage but 0 is half of the HP that are left.
     Halving,
-    /// One that hits goes on: the next ones deal its damage again.
+    /// One that hits continues: the next ones deal its damage again.
     Trapping,
 }
 
@@ -149,7 +149,7 @@ impl Rule {
     }
 }
 
-/// In how many more uses trapping goes on, and the chance of it.
+/// In how many more uses trapping continues, and the chance of it.
 const GOES_ON: [(u8, f64); 4] = [(1, 0.375), (2, 0.375), (3, 0.125), (4, 0.125)];
 
 /// The chances of what uses have left.

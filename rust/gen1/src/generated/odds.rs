@@ -5,8 +5,8 @@
 //! - `odds`: [`Odds`] of a move, for the two members that are out
 //! - `knock_outs`: the chances that one to three uses knock out the foe
 //! - `usual_uses`: in how many ways they do so with the usual damage
-//! - `trapping_uses`: the same of trapping, which goes on
-//! - `fixed_uses`: the same with a damage rule of their own
+//! - `trapping_uses`: the same of trapping, which continues
+//! - `fixed_uses`: the same with their own damage rule
 //! - `ways`: numbers of ways, and the HP that are left between uses
 //! - `reasons`: why a use can't hit
 //! - `status_reasons`: the same for moves that give a status
@@ -15,9 +15,9 @@
 //! - `acting`: [`ActionOdds`], of a member that may be kept from acting
 //! - `side_effects`: how many draws give a hit its side effect
 //! - `chances`: the numbers of draws, and [`takes_hit_test`]
-//! - `fixed_damage`: damage by a rule of its own
+//! - `fixed_damage`: damage by a move's own rule
 //! - `hit_counts`: the number of hits, and what a damage gives back or costs
-//! - `trials`: the kinds of use of a move, and whether it goes on
+//! - `trials`: the kinds of use of a move, and whether it continues
 //! - `sights`: what a use finds in a battle
 //! - `laws`: what the odds say of the machine's own phases
 
@@ -39,7 +39,7 @@ mod acting {
     use crate::generated::status::used_by;
     use crate::generated::tables::MoveId;
 
-    /// The chances that a member acts in a turn and that its move then hits, holds or harms, as exact counts of draws.
+    /// The chances that a member acts in a turn and that its move then hits, holds or has its side effect, as exact counts of draws.
     #[repr(C)]
     #[derive(Clone, Copy)]
     pub struct ActionOdds {
@@ -275,7 +275,7 @@ mod chances {
         )
     }
 
-    /// Whether the use deals the usual damage. Trapping that goes on repeats its damage, in place of that.
+    /// Whether the use deals the usual damage. Trapping that continues repeats its damage, in place of that.
     pub(crate) fn deals_usual(battle: &Packed, side: Side, id: MoveId) -> bool {
         let usual = has_usual_damage(id);
         let traps_on = traps_on(battle, side, id);
@@ -309,7 +309,7 @@ mod chances {
         takes & !skips
     }
 
-    // A sleep move takes no test against a foe that has to recharge, and trapping that goes on takes none at all.
+    // A sleep move takes no test against a foe that has to recharge, and trapping that continues takes none at all.
     fn skips_test(battle: &Packed, side: Side, id: MoveId) -> bool {
         let traps_on = traps_on(battle, side, id);
         let sleep = is_sleep(trial_of(id.effect()));
@@ -331,7 +331,7 @@ mod chances {
 }
 
 mod fixed_damage {
-    //! Damage by a rule of its own ([docs/MECHANICS.md, "Fixed damage and one-hit moves"](https://hibsuloy.example/gen1/blob/main/docs/MECHANICS.md#fixed-damage-and-one-hit-moves), "Counter", "Going on").
+    //! Damage by a move's own rule ([docs/MECHANICS.md, "Fixed damage and one-hit moves"](https://hibsuloy.example/gen1/blob/main/docs/MECHANICS.md#fixed-damage-and-one-hit-moves), "Counter", "Going on").
 
     use crate::generated::odds::trials::{Trial, traps_on, trial_of};
     use crate::generated::layout::Packed;
@@ -397,7 +397,7 @@ mod fixed_damage {
 }
 
 mod fixed_uses {
-    //! In how many ways one to three uses with a damage rule of their own take the HP that are needed ([docs/MECHANICS.md](https://hibsuloy.example/gen1/blob/main/docs/MECHANICS.md), "Fixed damage
+    //! In how many ways one to three uses with their own damage rule take the HP that are needed ([docs/MECHANICS.md](https://hibsuloy.example/gen1/blob/main/docs/MECHANICS.md), "Fixed damage
     //! and one-hit moves").
 
     use crate::generated::odds::knock_outs::Between;
@@ -755,7 +755,7 @@ mod knock_outs {
     /// Against a substitute it is the chance to break it. Both uses have the odds of `odds_of`, as the battle is now, and
     /// their damages add up: what else happens in between, such as residual damage, does not count. The second use of Super
     /// Fang halves the HP that are left. A trapping move that hits deals the same damage again in the second use, and one that
-    /// goes on already is taken to go on.
+    /// is continuing is taken to continue.
     pub fn knock_out(battle: &Packed, side: Side, id: MoveId) -> Chances {
         let odds = odds_of(battle, side, id);
         let need = needed(battle, side.other());
@@ -770,7 +770,7 @@ mod knock_outs {
     ///
     /// Each use has the odds of `odds_of`, as the battle is now. Between two uses the HP of the foe change as `between` says:
     /// of a foe that has any, they first rise, to its maximum at most, and then fall. The third use of Super Fang halves what
-    /// is left then, and a trapping move goes on as often as its draws let it. Against a substitute it is the chance to break
+    /// is left then, and a trapping move continues as often as its draws let it. Against a substitute it is the chance to break
     /// it, and `between` does not count. Nothing else that happens between the uses counts.
     pub fn knock_out_in_three(
         battle: &Packed,
@@ -891,7 +891,7 @@ mod knock_outs {
         hp.saturating_add(1).min(1000)
     }
 
-    // Damage by a rule of its own
+    // Damage by the move's own rule
     fn fixed_chances(odds: &Odds, halves: bool, need: u16, breaks_substitute: u8) -> Chances {
         let ways = 256 * fixed_ways(odds);
         let uses = Fixed {
@@ -1436,7 +1436,7 @@ mod side_effects {
         unless_guarded(resists | clause, FREEZE)
     }
 
-    // A status doesn't replace another, nor harm a foe of the move's own type.
+    // A status doesn't replace another, nor does a foe of the move's own type get one.
     fn resists_status(battle: &Packed, side: Side, id: MoveId) -> bool {
         let ailing = has_status(battle, side.other());
         let same = has_type(battle, side.other(), id.kind());
@@ -1629,7 +1629,7 @@ mod status_reasons {
 
 mod trapping_uses {
     //! In how many ways two or three uses of a trapping move take the HP that are needed ([docs/MECHANICS.md, "Going on"](https://hibsuloy.example/gen1/blob/main/docs/MECHANICS.md#going-on)). A use
-    //! that hits goes on: the next deals the same damage again.
+    //! that hits continues: the next deals the same damage again.
 
     use crate::generated::odds::hit_counts::HitCount;
     use crate::generated::odds::knock_outs::Between;
@@ -1692,7 +1692,7 @@ mod trapping_uses {
         ways
     }
 
-    // The third use goes on too with 5 chances of 8, and is otherwise a new one.
+    // The third use continues too with 5 chances of 8, and is otherwise a new one.
     fn third(odds: &Odds, most: u16, change: HpChange, damage: u16, need: u16) -> u64 {
         let goes_on = 5 * (WAYS * over(again(most, change, damage, need)));
         let is_new = 3 * once(odds, HitCount::Once, changed(most, change, need));
@@ -1701,7 +1701,7 @@ mod trapping_uses {
 }
 
 mod trials {
-    //! The kinds of use of a move, and whether it goes on ([docs/MECHANICS.md, "Going on"](https://hibsuloy.example/gen1/blob/main/docs/MECHANICS.md#going-on), "Kept accuracy").
+    //! The kinds of use of a move, and whether it continues ([docs/MECHANICS.md, "Going on"](https://hibsuloy.example/gen1/blob/main/docs/MECHANICS.md#going-on), "Kept accuracy").
 
     use crate::generated::odds::sights::is_charging;
     use crate::generated::layout::Packed;
@@ -1778,7 +1778,7 @@ mod trials {
         keeps & same
     }
 
-    /// Whether the move is trapping that goes on.
+    /// Whether the move is trapping that continues.
     pub(crate) fn traps_on(battle: &Packed, side: Side, id: MoveId) -> bool {
         let traps = id.effect().traps();
         let goes_on = goes_on(battle, side, id);
@@ -2004,7 +2004,7 @@ mod ways {
         u64::from(draws) * one + u64::from(256 - draws) * another
     }
 
-    // The same of more ways.
+    // Of more ways.
     pub(crate) fn mixed_wide(draws: u16, one: u128, another: u128) -> u128 {
         u128::from(draws) * one + u128::from(256 - draws) * another
     }
