@@ -2,7 +2,7 @@ use Rattle.std.proofs.Common.{◌∙◌, ap, arith}
 use Rattle.gen1_rolls.specs.Link.{Ring, ring_of}
 use Rattle.gen1_rolls.specs.Streams.{Link}
 use Rattle.gen1_rolls.proofs.Rings.{ring-stands}
-use Rattle.test_numbers.proofs.draws.index_behind.Goals as goal
+use Rattle.test_data.proofs.draws.index_behind.Goals as goal
 
 pub returns : goal.returns
 returns c m e =

@@ -1,7 +1,7 @@
 use Rattle.std.proofs.Common.{nat_lt, ap, arith, refl}
 use Rattle.std.proofs.lemmas.Bool.Decides.{nat_tests}
 use Rattle.gen1_rolls.specs.Streams.{low_bits}
-use Rattle.test_numbers.proofs.draws.count.Goals as goal
+use Rattle.test_data.proofs.draws.count.Goals as goal
 
 pub returns-in-Some : goal.returns-in-Some
 returns-in-Some g c since n a =
