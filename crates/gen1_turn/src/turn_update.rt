@@ -18,18 +18,17 @@ mod choices;
 mod order;
 mod parts;
 
-pub use choices::{end_flinch, set_picked};
-pub use order::first_side;
-pub use parts::{act_and_suffer_as, end_turn};
-
 use by_side::BySide;
 use choices::take_turn;
+pub use choices::{end_flinch, set_picked};
 use gen1_events::EventSink;
 use gen1_hits::Known;
 use gen1_layout::Packed;
 use gen1_machine::{Choice, Side};
 use gen1_rolls::Rolls;
 use gen1_switching::{close, close_uncut};
+pub use order::first_side;
+pub use parts::{act_and_suffer_as, end_turn};
 
 /// Plays a turn of a battle that asks for moves, by an offered choice of each side (docs/MECHANICS.md, "Order of a
 /// turn", "Falls and requests").

@@ -946,18 +946,17 @@ mod turn_update {
     }
 
 
-    pub use choices::{end_flinch, set_picked};
-    pub use order::first_side;
-    pub use parts::{act_and_suffer_as, end_turn};
-
     use by_side::BySide;
     use choices::take_turn;
+    pub use choices::{end_flinch, set_picked};
     use crate::generated::events::EventSink;
     use crate::generated::hits::Known;
     use crate::generated::layout::Packed;
     use crate::generated::machine::{Choice, Side};
     use crate::generated::rolls::Rolls;
     use crate::generated::switching::{close, close_uncut};
+    pub use order::first_side;
+    pub use parts::{act_and_suffer_as, end_turn};
 
     /// Plays a turn of a battle that asks for moves, by an offered choice of each side ([docs/MECHANICS.md](https://hibsuloy.example/gen1/blob/main/docs/MECHANICS.md), "Order of a
     /// turn", "Falls and requests").
