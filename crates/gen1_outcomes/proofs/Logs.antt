@@ -1,5 +1,5 @@
 -- Logs with one entry more, and the draws of an explorer.
-use Rattle.std.proofs.Common.{◌≡◌, ◌≢◌, ◌⊎◌, inl, inr, ℕ, ◌+◌, ◌<◌, ◌≤◌, List, [], ◌∷◌, ◌++◌, Option, None, Some, IfNone, IfSome, IsFalse, IsTrue, ap, append-nil, append_assoc, arith, refl, subst, sym, ◌∙◌}
+use Rattle.std.proofs.Common.{◌≡◌, ◌≢◌, ◌⊎◌, inl, inr, ℕ, ◌+◌, ◌<◌, List, [], ◌∷◌, ◌++◌, Option, None, Some, IfNone, IfSome, IsFalse, IsTrue, ap, append-nil, append_assoc, arith, refl, subst, sym, ◌∙◌}
 use Rattle.std.specs.Borrow.{GName}
 use Rattle.gen1_rolls.specs.declared.look.ByteTest.{ByteTest}
 use Rattle.gen1_rolls.specs.declared.look.Look.{Look}
@@ -21,12 +21,14 @@ use Rattle.gen1_outcomes.specs.declared.byte_set.ByteSet.{ByteSet}
 use Rattle.gen1_outcomes.specs.declared.explorer.Explorer.{Explorer}
 use Rattle.gen1_outcomes.specs.declared.log.Entry.{Entry}
 use Rattle.gen1_outcomes.specs.declared.log.Entry.TheVariants.{Draw, Found, Missed}
+use Rattle.gen1_outcomes.specs.declared.nodes.Asked.{Asked}
+use Rattle.gen1_outcomes.specs.declared.nodes.Asked.TheVariants.{First, Next}
 use Rattle.gen1_outcomes.specs.declared.nodes.Nodes.{Nodes}
 use Rattle.gen1_outcomes.specs.declared.script.Script.{Script}
 use Rattle.gen1_outcomes.specs.Following.{Leads, turn_on}
 use Rattle.gen1_outcomes.specs.Logs.{explored}
 use Rattle.gen1_outcomes.specs.Logs.{AllFit, Draws, FindsAlike, Fits, IsLogged, NotesAll, NotesEntry, place_after, place_at, place_past}
-use Rattle.gen1_outcomes.specs.Nodes.{Notes, NotesAfter, Noting}
+use Rattle.gen1_outcomes.specs.Nodes.{Notes, Noting, PassesBy}
 use Rattle.gen1_outcomes.specs.Script.{scripted}
 
 pub place_more : (es : List Entry) (e : Entry) (s : Stream) (n : ℕ) → place_at (es ++ e ∷ []) s n ≡ place_after e s (place_at es s n)
@@ -168,7 +170,7 @@ module _ {N : Type 0} (noting : N → Noting) (name : N → GName) where
       }
 
   pub missed_step : (test : ByteTest) (old new : Explorer N) → new.log.entries ≡ old.log.entries ++ Missed test ∷ []
-      → noting new.notes ≡ noting old.notes → name new.notes ≡ name old.notes
+      → NotesEntry (Missed test) (noting old.notes) (noting new.notes) → name new.notes ≡ name old.notes
       → Misses (steady scripted) (passes test) old.script new.script → StepBy (Missed test) old new
   missed_step test old new log notes same misses =
       record {
@@ -185,7 +187,7 @@ module _ {N : Type 0} (noting : N → Noting) (name : N → GName) where
     pub logged : IfSome o (λ b. new.log.entries ≡ old.log.entries ++ Found test look b ∷ [])
     pub missed : IfNone o (new.log.entries ≡ old.log.entries ++ Missed test ∷ [])
     pub noted : IfSome o (λ b. NotesEntry (Found test look b) (noting old.notes) (noting new.notes))
-    pub still : IfNone o (noting new.notes ≡ noting old.notes)
+    pub marks : IfNone o (NotesEntry (Missed test) (noting old.notes) (noting new.notes))
     pub same : name new.notes ≡ name old.notes
 
   pub finds_searched : (test : ByteTest) (look : Look) (o : Option ℕ) (old new : Explorer N) → Searched test look o old new
@@ -197,12 +199,12 @@ module _ {N : Type 0} (noting : N → Noting) (name : N → GName) where
   pub misses_searched : (test : ByteTest) (look : Look) (o : Option ℕ) (old new : Explorer N) → Searched test look o old new
       → IfNone o (Misses (explored noting name) (passes test) old new)
   misses_searched test look (Some b) old new s = tt
-  misses_searched test look None old new s = missed_by test old new s.none.none_meets (missed_step test old new s.missed s.still s.same s.none)
+  misses_searched test look None old new s = missed_by test old new s.none.none_meets (missed_step test old new s.missed s.marks s.same s.none)
 
   pub steps_searched : (test : ByteTest) (look : Look) (o : Option ℕ) (old new : Explorer N) → Searched test look o old new
       → StepsTo (explored noting name) old new
   steps_searched test look (Some b) old new s = steps_by (Found test look b) old new (found_step test look b old new s.logged s.noted s.same s.found)
-  steps_searched test look None old new s = steps_by (Missed test) old new (missed_step test old new s.missed s.still s.same s.none)
+  steps_searched test look None old new s = steps_by (Missed test) old new (missed_step test old new s.missed s.marks s.same s.none)
 
   -- What was asked since the beginning: the draws of the script agree with it, and all of it was noted.
   abbrev pub logged_by : (start last : Explorer N) → start.log.entries ≡ [] → IsStream (stream_of scripted start.script) → StepsTo (explored noting name) start last
@@ -242,29 +244,34 @@ module _ {N : Type 0} (noting : N → Noting) (name : N → GName) where
 none_or : (n : ℕ) → (n ≡ 0) ⊎ (n ≢ 0)
 none_or n = grind arith
 
-less_or : (m n : ℕ) → (m < n) ⊎ (n ≤ m)
-less_or m n = grind arith
-
 -- No draw changes how they are noted.
-after_keeps : (b : ℕ) (look : Look) (may : ByteSet) (old new : Noting) → NotesAfter b look may old new → new.nodes.options ≡ old.nodes.options
-after_keeps b look may old new notes =
+pass_keeps : (b : ℕ) (asked : Asked) (look : Look) (old new : Noting) → PassesBy b asked look old new → new.nodes.options ≡ old.nodes.options
+pass_keeps b asked look old new passes =
     elim (none_or old.left) [
-      | inl none ↦ elim (less_or old.nodes.at old.nodes.len) [
-        | inl less ↦ ap (λ (x : Nodes). x.options) (notes.passed none less)
-        | inr most ↦ by (notes.noted none most)
+      | inl none ↦ elim (passes.passed none).past [
+        | inl same ↦ ap (λ (x : Nodes). x.options) same.1
+        | inr other ↦ ap (λ (x : Nodes). x.options) other
       ]
-      | inr some ↦ ap (λ (x : Nodes). x.options) (notes.counted some).1
+      | inr some ↦ ap (λ (x : Nodes). x.options) (passes.counted some).1
     ]
-  where
-    by : Notes b look may old.nodes new.nodes → new.nodes.options ≡ old.nodes.options
-    by (inl adds) = adds.options
-    by (inr (inl same)) = ap (λ (x : Nodes). x.options) same.0
-    by (inr (inr marked)) = marked.options
 
-entry_keeps : (e : Entry) (old new : Noting) → NotesEntry e old new → new.nodes.options ≡ old.nodes.options
-entry_keeps (Draw look b) old new notes = after_keeps b look notes.0 old new notes.2
-entry_keeps (Found test look b) old new notes = after_keeps b look notes.0 old new notes.2
-entry_keeps (Missed test) old new same = ap (λ (x : Noting). x.nodes.options) same
+note_keeps : (b : ℕ) (asked : Asked) (look : Look) (may : ByteSet) (old new : Nodes) → Notes b asked look may old new → new.options ≡ old.options
+note_keeps b asked look may old new (inl adds) = adds.options
+note_keeps b asked look may old new (inr (inl same)) = ap (λ (x : Nodes). x.options) same.0
+note_keeps b asked look may old new (inr (inr marked)) = marked.options
+
+pub entry_keeps : (e : Entry) (old new : Noting) → NotesEntry e old new → new.nodes.options ≡ old.nodes.options
+entry_keeps (Draw look b) old new notes =
+    elim notes [
+      | inl passes ↦ pass_keeps b Next look old new passes
+      | inr adds ↦ note_keeps b Next look adds.0 old.nodes new.nodes adds.2.noted
+    ]
+entry_keeps (Found test look b) old new notes =
+    elim notes.2 [
+      | inl passes ↦ pass_keeps b (First test) look old new passes
+      | inr adds ↦ note_keeps b (First test) look adds.0 old.nodes new.nodes adds.2.noted
+    ]
+entry_keeps (Missed test) old new marks = ap (λ (x : Noting). x.nodes.options) marks
 
 pub notes_keep : (es : List Entry) (old new : Noting) → NotesAll es old new → new.nodes.options ≡ old.nodes.options
 notes_keep [] old new same = ap (λ (x : Noting). x.nodes.options) same

@@ -1,6 +1,6 @@
 -- Bytes of a path, and draws of a plain walk, that are written one after the other.
-use Rattle.std.proofs.Common.{◌≡◌, ◌≢◌, ℕ, ◌+◌, ◌-◌, ◌<◌, ◌≤◌, List, length, get_or, get_or-set_other, get_or-set_same, set, ◌⊎◌, inl, inr, ap, replicate, subst, sym, ◌∙◌, arith}
-use Rattle.std.proofs.lemmas.List.{get_or_default}
+use Rattle.std.proofs.Common.{Bool, false, ◌≡◌, ◌≢◌, ℕ, ◌+◌, ◌<◌, List, length, get_or, get_or-set_other, get_or-set_same, set, ◌⊎◌, inl, inr, ap, replicate, subst, sym, ◌∙◌, arith}
+use Rattle.std.proofs.lemmas.List.{ext_get_or, get_or_default}
 use Rattle.gen1_outcomes.specs.declared.nodes.Node.{Node}
 use Rattle.gen1_outcomes.specs.declared.plain.PlainDraw.{PlainDraw}
 use Rattle.gen1_outcomes.specs.Plain.{ArePlain, IsDraw, IsPlain, KeepsUnused}
@@ -24,16 +24,19 @@ drawn_more path list at d inside there before k none lt =
 pub kept_first : (path : List ℕ) (at v k w : ℕ) → k < at → get_or path k 0 ≡ w → get_or (set path at v) k 0 ≡ w
 kept_first path at v k w lt e = let ne : k ≢ at = omega (arith, lt) in get_or-set_other path at k v 0 ne ∙ e
 
--- A byte of the further ones is written after those before it.
-pub further_more : (path further : List ℕ) (draws at : ℕ) → at < length path
-    → ((k : ℕ) → draws ≤ k → k < at → get_or path k 0 ≡ get_or further (k - draws) 0)
-    → (k : ℕ) → draws ≤ k → k < at + 1 → get_or (set path at (get_or further (at - draws) 0)) k 0 ≡ get_or further (k - draws) 0
-further_more path further draws at inside before k more lt =
+-- The same for a path that has other bytes before them.
+pub further_more : (path : List ℕ) (list : List Node) (draws at : ℕ) (d : Node) → draws + at < length path → at < length list
+    → ((k : ℕ) (past : Node) → k < at → get_or path (draws + k) 0 ≡ (get_or list k past).byte)
+    → (k : ℕ) (past : Node) → k < at + 1 → get_or (set path (draws + at) (get_or list at d).byte) (draws + k) 0 ≡ (get_or list k past).byte
+further_more path list draws at d inside there before k past lt =
     elim (same_or k at) [
       | inl e ↦
-          ap (λ (j : ℕ). get_or (set path at (get_or further (at - draws) 0)) j 0) e ∙ get_or-set_same path at (get_or further (at - draws) 0) 0 inside
-          ∙ sym (ap (λ (j : ℕ). get_or further (j - draws) 0) e)
-      | inr ne ↦ get_or-set_other path at k (get_or further (at - draws) 0) 0 ne ∙ before k more (omega (arith, ne, lt))
+          ap (λ (j : ℕ). get_or (set path (draws + at) (get_or list at d).byte) (draws + j) 0) e
+          ∙ get_or-set_same path (draws + at) (get_or list at d).byte 0 inside
+          ∙ ap (λ (n : Node). n.byte) (get_or_default list at d past there ∙ sym (ap (λ (j : ℕ). get_or list j past) e))
+      | inr ne ↦
+          let apart : draws + k ≢ draws + at = omega (arith, ne) in
+          get_or-set_other path (draws + at) (draws + k) (get_or list at d).byte 0 apart ∙ before k past (omega (arith, ne, lt))
     ]
 
 -- A draw is read after those before it.
@@ -85,3 +88,20 @@ reads_more draws at d there before is k none lt =
       | inl e ↦ subst (λ (x : PlainDraw). IsDraw x) (get_or_default draws at d none there ∙ sym (ap (λ (j : ℕ). get_or draws j none) e)) is
       | inr ne ↦ before k none (omega (arith, ne, lt))
     ]
+
+-- Four truth values are the same at each place.
+one_of_four : (i : ℕ) → i < 4 → (i ≡ 0) ⊎ (i ≡ 1) ⊎ (i ≡ 2) ⊎ (i ≡ 3)
+one_of_four i lt = grind (arith, lt)
+
+abbrev SameAt : List Bool → List Bool → ℕ → Type 0
+SameAt xs ys i = get_or xs i false ≡ get_or ys i false
+
+pub four_same : (xs ys : List Bool) → length xs ≡ 4 → length ys ≡ 4 → SameAt xs ys 0 → SameAt xs ys 1 → SameAt xs ys 2 → SameAt xs ys 3 → xs ≡ ys
+four_same xs ys long short first second third fourth =
+    ext_get_or false xs ys (long ∙ sym short) (λ i lt.
+    elim (one_of_four i (omega (arith, lt, long))) [
+      | inl e ↦ subst (λ (j : ℕ). SameAt xs ys j) (sym e) first
+      | inr (inl e) ↦ subst (λ (j : ℕ). SameAt xs ys j) (sym e) second
+      | inr (inr (inl e)) ↦ subst (λ (j : ℕ). SameAt xs ys j) (sym e) third
+      | inr (inr (inr e)) ↦ subst (λ (j : ℕ). SameAt xs ys j) (sym e) fourth
+    ])

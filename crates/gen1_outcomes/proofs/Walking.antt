@@ -16,15 +16,17 @@ use Rattle.gen1_outcomes.specs.Following.{PlaysNext, PlaysWay, Walk}
 use Rattle.gen1_outcomes.specs.Nodes.{AllDone, AreBytes, AreLeft, AreOn, AreToCome, Covers, GoesOn, IsChance, IsDone, LeadsOn}
 use Rattle.gen1_outcomes.specs.Plain.{ArePlain, EndsWith, GoesOnTo}
 
-pub leads_on : (old new : Nodes) (list : List Node) (len : ℕ) (node : Node) → new.list ≡ set list (len - 1) node → new.len ≡ len → new.options ≡ old.options → list ≡ old.list
-    → len ≤ old.len → 0 < len → len ≤ length list → (d : Node) → GoesOn (get_or list (len - 1) d) node
+pub leads_on : (old new : Nodes) (list : List Node) (len : ℕ) (node : Node) → new.list ≡ set list (len - 1) node → new.len ≡ len → new.at ≡ 0 → new.asked ≡ old.asked → new.options ≡ old.options
+    → list ≡ old.list → len ≤ old.len → 0 < len → len ≤ length list → (d : Node) → GoesOn (get_or list (len - 1) d) node
     → ((k : ℕ) (none : Node) → len ≤ k → k < old.len → IsDone (get_or old.list k none)) → LeadsOn old new
-leads_on old new list len node is same_len options same shorter some within d goes done =
+leads_on old new list len node is same_len first asked options same shorter some within d goes done =
     let inside : len - 1 < length list = omega arith in
     record {
       place = len - 1;
       within = omega arith;
       length = omega (arith, same_len);
+      at = first;
+      asked = asked;
       options = options;
       before = λ k none lt.
           let ne : k ≢ len - 1 = omega (arith, lt) in
@@ -74,7 +76,7 @@ then_is num whole p q t c e =
     crossed num p whole t ∙ ap (λ (x : ℕ). num * whole * x) e ∙ ap (λ (x : ℕ). x * (q * c)) (mul_comm num whole) ∙ sym (crossed whole q num c)
 
 -- The draw at a place.
-abbrev at : Nodes → ℕ → Node → Node
+abbrev pub at : Nodes → ℕ → Node → Node
 at nodes k past = get_or nodes.list k past
 
 true_or : (b : Bool) → (b ≡ true) ⊎ (b ≡ false)
@@ -84,7 +86,7 @@ true_or false = inr refl
 three : (m n : ℕ) → (m < n) ⊎ (m ≡ n) ⊎ (n < m)
 three m n = grind arith
 
-some_node : Node
+pub some_node : Node
 some_node =
     let rest : ByteSet = record { words = [] } in
     record {

@@ -1,5 +1,5 @@
 -- Logs of draws and searches, the streams that agree with one, and the notes of them (docs/MECHANICS.md, "Link numbers").
-use Rattle.std.specs.Prelude.{List, None, Option, Some, [], ℕ, ◌++◌, ◌+◌, ◌∷◌, ◌≡◌, ◌⊎◌}
+use Rattle.std.specs.Prelude.{IsTrue, List, None, Option, Some, [], ℕ, ◌++◌, ◌+◌, ◌<◌, ◌∷◌, ◌≡◌, ◌⊎◌}
 use Rattle.std.specs.Borrow.{GName}
 use Rattle.gen1_rolls.specs.declared.look.ByteTest.{ByteTest}
 use Rattle.gen1_rolls.specs.declared.look.Look.{Look}
@@ -11,10 +11,11 @@ use Rattle.gen1_outcomes.specs.declared.byte_set.ByteSet.{ByteSet}
 use Rattle.gen1_outcomes.specs.declared.explorer.Explorer.{Explorer}
 use Rattle.gen1_outcomes.specs.declared.log.Entry.{Entry}
 use Rattle.gen1_outcomes.specs.declared.log.Entry.TheVariants.{Draw, Found, Missed}
+use Rattle.gen1_outcomes.specs.declared.nodes.Asked.TheVariants.{First, Next}
 use Rattle.gen1_outcomes.specs.declared.nodes.Nodes.{Nodes}
 use Rattle.gen1_outcomes.specs.declared.script.Script.{Script}
 use Rattle.gen1_outcomes.specs.Bytes.{ArePassing, IsAll, IsNone}
-use Rattle.gen1_outcomes.specs.Nodes.{IsSettled, NotesAfter, Noting}
+use Rattle.gen1_outcomes.specs.Nodes.{IsSettled, Marks, NotesNew, Noting, PassesBy}
 use Rattle.gen1_outcomes.specs.Script.{scripted}
 
 -- The place after what a search from n on finds.
@@ -55,11 +56,14 @@ pub record Agrees (log : List Entry) (s : Stream) : Type 0 where
   pub is : IsStream s
   pub fit : AllFit log s 0
 
--- What a draw or a search changes in the notes: a draw may have any byte, and a search those that pass, or what it may have does not matter.
+-- What a draw or a search changes in the notes. A draw may have any byte, and a search those that pass, or what it may have does not matter.
+-- A way whose search finds nothing is marked.
 abbrev pub NotesEntry : Entry → Noting → Noting → Type 0
-NotesEntry (Draw look b) old new = (may : ByteSet) × IsAll may × NotesAfter b look may old new
-NotesEntry (Found test look b) old new = (may : ByteSet) × (ArePassing (passes test) may ⊎ (IsSettled old × IsNone may)) × NotesAfter b look may old new
-NotesEntry (Missed test) old new = new ≡ old
+NotesEntry (Draw look b) old new = PassesBy b Next look old new ⊎ ((may : ByteSet) × IsAll may × NotesNew b Next look may old new)
+NotesEntry (Found test look b) old new =
+    (b < 256) × IsTrue (passes test b)
+    × (PassesBy b (First test) look old new ⊎ ((may : ByteSet) × (ArePassing (passes test) may ⊎ (IsSettled old × IsNone may)) × NotesNew b (First test) look may old new))
+NotesEntry (Missed test) old new = Marks old new
 
 -- What all of a log change in them, one after the other.
 abbrev pub NotesAll : List Entry → Noting → Noting → Type 0

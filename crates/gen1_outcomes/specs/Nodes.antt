@@ -3,6 +3,8 @@ use Rattle.std.specs.Prelude.{Bool, List, length, true, ℕ, slice_index, slice_
 use Rattle.gen1_rolls.specs.declared.look.Look.{Look}
 use Rattle.gen1_rolls.specs.declared.look.Look.TheVariants.{Factor}
 use Rattle.gen1_outcomes.specs.declared.byte_set.ByteSet.{ByteSet}
+use Rattle.gen1_outcomes.specs.declared.nodes.Asked.{Asked}
+use Rattle.gen1_outcomes.specs.declared.nodes.Asked.TheVariants.{Unknown}
 use Rattle.gen1_outcomes.specs.declared.nodes.Chance.{Chance}
 use Rattle.gen1_outcomes.specs.declared.nodes.Node.{Node}
 use Rattle.gen1_outcomes.specs.declared.nodes.Nodes.{Nodes}
@@ -51,12 +53,18 @@ pub record IsRun (node : Node) (first : ℕ) (class : ByteSet) : Type 0 where
 abbrev pub IsDone : Node → Type 0
 IsDone node = (x : ℕ) → x < 256 → has node.rest x ≡ 0
 
+-- Which byte the draw at a place asks for.
+abbrev pub asked_at : Nodes → ℕ → Asked
+asked_at nodes k = slice_index_or nodes.asked k Unknown
+
 -- The next way: up to a draw it is the same, this draw goes on, and after it nothing was left.
 pub record LeadsOn (old new : Nodes) : Type 0 where
   pub long : new.len ≤ length new.list
   pub place : ℕ
   pub within : place < old.len
   pub length : new.len ≡ place + 1
+  pub at : new.at ≡ 0
+  pub asked : new.asked ≡ old.asked
   pub options : new.options ≡ old.options
   pub before : (k : ℕ) → (none : Node) → k < place → slice_index_or new.list k none ≡ slice_index_or old.list k none
   pub here : (none : Node) → GoesOn (slice_index_or old.list place none) (slice_index_or new.list place none)
@@ -101,10 +109,13 @@ pub record Covers (may : ByteSet) (old new : Nodes) : Type 0 where
   pub left : (bytes : ℕ → ℕ) → AreBytes bytes → AreLeft old bytes → AreLeft new bytes
   pub on : (bytes : ℕ → ℕ) → AreBytes bytes → AreOn old old.len bytes → has may (bytes old.len) ≡ 1 → AreToCome new bytes
 
--- A draw is added after the others: its byte, how many it may have and how many of them are in its class, and the probability of those
--- before it. It loses no bytes.
-pub record Adds (drawn : ℕ) (seen : Look) (may : ByteSet) (old new : Nodes) : Type 0 where
+-- A draw is added after the others: its byte, which byte it asks for, how many it may have and how many of them are in its class, and the
+-- probability of those before it. It loses no bytes.
+pub record Adds (drawn : ℕ) (question : Asked) (seen : Look) (may : ByteSet) (old new : Nodes) : Type 0 where
   pub length : new.len ≡ old.len + 1
+  pub at : new.at ≡ new.len
+  pub asks : asked_at new old.len ≡ question
+  pub asked : (k : ℕ) → k < old.len → asked_at new k ≡ asked_at old k
   pub options : new.options ≡ old.options
   pub before : (k : ℕ) → (past : Node) → k < old.len → slice_index_or new.list k past ≡ slice_index_or old.list k past
   pub byte : (past : Node) → (slice_index_or new.list old.len past).byte ≡ drawn
@@ -137,6 +148,7 @@ IsTooLarge nodes = (nodes.too_large ≡ true) ⊎ ((0 < nodes.len) × ((past : N
 pub record IsMarked (old new : Nodes) : Type 0 where
   pub marked : new.too_large ≡ true
   pub list : new.list ≡ old.list
+  pub asked : new.asked ≡ old.asked
   pub length : new.len ≡ old.len
   pub at : new.at ≡ old.at
   pub before : new.before ≡ old.before
@@ -144,8 +156,8 @@ pub record IsMarked (old new : Nodes) : Type 0 where
   pub why : (old.len ≡ 24) ⊎ IsTooLarge old
 
 -- What becomes of a draw that no way had before: it is added, or its branch is left out, or the way is too large.
-abbrev pub Notes : ℕ → Look → ByteSet → Nodes → Nodes → Type 0
-Notes drawn seen may old new = Adds drawn seen may old new ⊎ ((new ≡ old) × IsLeftOut old) ⊎ IsMarked old new
+abbrev pub Notes : ℕ → Asked → Look → ByteSet → Nodes → Nodes → Type 0
+Notes drawn asked seen may old new = Adds drawn asked seen may old new ⊎ ((new ≡ old) × IsLeftOut old) ⊎ IsMarked old new
 
 -- Where draws are noted: how many of a first part of the update are still to come, and the draws after it.
 pub record Noting : Type 0 where
@@ -160,9 +172,29 @@ pub record IsFresh (noting : Noting) : Type 0 where
 abbrev pub IsSettled : Noting → Type 0
 IsSettled noting = (noting.left ≢ 0) ⊎ (noting.nodes.at < noting.nodes.len) ⊎ IsLeftOut noting.nodes
 
--- A draw after a first part of the update, of which some are still to come, is noted. One of the first part is only counted.
-pub record NotesAfter (drawn : ℕ) (seen : Look) (may : ByteSet) (old new : Noting) : Type 0 where
+-- The next draw of a way has this byte. An earlier way asked the same of it, as far as that is known.
+abbrev pub HasAsked : ℕ → Asked → Look → Nodes → Type 0
+HasAsked drawn asked seen nodes =
+    (asked_at nodes nodes.at ≡ Unknown)
+    ⊎ ((asked_at nodes nodes.at ≡ asked) × ((past : Node) → ((slice_index_or nodes.list nodes.at past).look ≡ seen) × ((slice_index_or nodes.list nodes.at past).byte ≡ drawn)))
+
+-- The next draw is one of a way, and is passed. It is as it was on an earlier way, or the way is marked as too large.
+pub record Passes (drawn : ℕ) (asked : Asked) (seen : Look) (old new : Nodes) : Type 0 where
+  pub within : old.at < old.len
+  pub past : (HasAsked drawn asked seen old × (new ≡ record old { at = old.at + 1 })) ⊎ (new ≡ record old { at = old.at + 1; too_large = true })
+
+-- A draw of the first part is counted, and one of the way is passed.
+pub record PassesBy (drawn : ℕ) (asked : Asked) (seen : Look) (old new : Noting) : Type 0 where
   pub counted : old.left ≢ 0 → (new.left + 1 ≡ old.left) × (new.nodes ≡ old.nodes)
   pub still : old.left ≡ 0 → new.left ≡ 0
-  pub passed : old.left ≡ 0 → old.nodes.at < old.nodes.len → new.nodes ≡ record old.nodes { at = old.nodes.at + 1 }
-  pub noted : old.left ≡ 0 → old.nodes.len ≤ old.nodes.at → Notes drawn seen may old.nodes new.nodes
+  pub passed : old.left ≡ 0 → Passes drawn asked seen old.nodes new.nodes
+
+-- A draw that no way had before is noted.
+pub record NotesNew (drawn : ℕ) (asked : Asked) (seen : Look) (may : ByteSet) (old new : Noting) : Type 0 where
+  pub fresh : IsFresh old
+  pub still : new.left ≡ 0
+  pub noted : Notes drawn asked seen may old.nodes new.nodes
+
+-- The way is marked as too large.
+abbrev pub Marks : Noting → Noting → Type 0
+Marks old new = new ≡ record old { nodes = record old.nodes { too_large = true } }

@@ -39,6 +39,7 @@ impl ByteSet {
     }
 
     /// The bytes whose place among 64 neighbours is set in the word.
+    #[tactic(auto, using(crate::proofs::Repeated::repeated_has))]
     pub fn repeated(word: u64) -> Self
         ensures { (b : ℕ) → b < 256 → has result b ≡ bit_at word (b % 64) }
     {
@@ -58,6 +59,7 @@ impl ByteSet {
     }
 
     /// Puts the byte into the set.
+    #[tactic(auto, using(crate::proofs::Sets::inserted, crate::proofs::Sets::inserted_other))]
     pub fn insert(&mut self, byte: u8)
         ensures there { has self.new byte ≡ 1 }
         ensures others { (b : ℕ) → b < 256 → b ≢ byte → has self.new b ≡ has self.old b }
@@ -84,6 +86,7 @@ impl ByteSet {
     }
 
     /// The bytes that are in both sets.
+    #[tactic(auto, using(crate::proofs::Sets::both_has))]
     pub fn both(&self, other: &ByteSet) -> ByteSet
         ensures { (b : ℕ) → b < 256 → has result b ≡ min (has self.now b) (has other.now b) }
     {
@@ -98,6 +101,7 @@ impl ByteSet {
     }
 
     /// The bytes that are in this set and not in the other.
+    #[tactic(auto, using(crate::proofs::Sets::without_has))]
     pub fn without(&self, other: &ByteSet) -> ByteSet
         ensures { (b : ℕ) → b < 256 → has result b ≡ has self.now b - has other.now b }
     {
@@ -183,6 +187,7 @@ fn count_of(word: u64) -> u16
 }
 
 // The number whose lowest bits are set, as many as are given, or all 64.
+#[tactic(auto, using(crate::proofs::Sets::ones_all, crate::proofs::Sets::ones_few))]
 fn ones(count: u8) -> u64
     ensures { result ≡ 2 ^ min count 64 - 1 }
 {

@@ -4,7 +4,7 @@ ghost use Rattle.gen1_outcomes.specs.Script.{script_of, scripted};
 ghost use Rattle.gen1_outcomes.specs.Bytes.{ArePassing, IsNone};
 ghost use Rattle.gen1_outcomes.specs.declared.log.Entry.TheVariants as entries;
 ghost use Rattle.gen1_outcomes.specs.Logs.{NotesEntry};
-ghost use Rattle.gen1_outcomes.specs.Nodes.{IsFresh, IsSettled, NotesAfter};
+ghost use Rattle.gen1_outcomes.specs.Nodes.{IsFresh, IsSettled, Marks, NotesNew, PassesBy};
 ghost use Rattle.gen1_rolls.specs.Draws.{DrawsByte, FindsAs, FindsNone};
 ghost use Rattle.gen1_rolls.specs.Looks.{passes};
 ghost use Rattle.gen1_rolls.specs.Steady.{steady, stream_of};
@@ -12,7 +12,7 @@ ghost use Rattle.gen1_rolls.specs.Streams.{IsStream};
 
 use crate::byte_set::ByteSet;
 use crate::log::{Entry, Log};
-use crate::nodes::Nodes;
+use crate::nodes::{Asked, Nodes};
 use crate::script::{DEPTH, Script};
 use gen1_rolls::{ByteTest, Look, Rolls};
 
@@ -31,9 +31,22 @@ pub(crate) trait Notes {
         ensures new { IsTrue result → IsFresh (noting self.now) }
         ensures other { IsFalse result → IsSettled (noting self.now) };
 
-    /// Notes that a draw has this byte, of those that it may have.
-    fn note(&mut self, byte: u8, look: Look, may_have: &ByteSet)
-        ensures noted { NotesAfter byte look may_have.now (noting self.old) (noting self.new) }
+    /// Goes past the next draw, if it is one of the first part or of this way.
+    fn pass(&mut self, byte: u8, asked: Asked, look: Look) -> bool
+        ensures passed { IsTrue result → PassesBy byte asked look (noting self.old) (noting self.new) }
+        ensures new { IsFalse result → IsFresh (noting self.old) }
+        ensures kept { IsFalse result → noting self.new ≡ noting self.old }
+        ensures same_reference { name self.new ≡ name self.old };
+
+    /// Notes that a draw that no way had before has this byte, of those that it may have.
+    fn note(&mut self, byte: u8, asked: Asked, look: Look, may_have: &ByteSet)
+        ensures noted { IsFresh (noting self.old)
+            → NotesNew byte asked look may_have.now (noting self.old) (noting self.new) }
+        ensures same_reference { name self.new ≡ name self.old };
+
+    /// Notes that a search found nothing.
+    fn miss(&mut self)
+        ensures marks { Marks (noting self.old) (noting self.new) }
         ensures same_reference { name self.new ≡ name self.old };
 }
 
@@ -66,12 +79,22 @@ impl Notes for After<'_> {
         self.left == 0 && self.nodes.is_new()
     }
 
-    fn note(&mut self, byte: u8, look: Look, may_have: &ByteSet) {
+    #[inline(always)] // docs/SPEED.md, "Hints on inlining"
+    fn pass(&mut self, byte: u8, asked: Asked, look: Look) -> bool {
         if self.left == 0 {
-            self.nodes.note(byte, look, may_have);
-        } else {
-            self.left -= 1;
+            return self.nodes.pass(byte, asked, look);
         }
+        self.left -= 1;
+        true
+    }
+
+    #[inline(never)] // docs/SPEED.md, "Hints on inlining"
+    fn note(&mut self, byte: u8, asked: Asked, look: Look, may_have: &ByteSet) {
+        self.nodes.note(byte, asked, look, may_have);
+    }
+
+    fn miss(&mut self) {
+        self.nodes.miss();
     }
 }
 
@@ -133,7 +156,7 @@ fn draw_noted<N: Notes>(script: &mut Script, notes: &mut N, log: &mut Log, look:
     ensures same_reference { N.name notes.new ≡ N.name notes.old }
 {
     let byte = script.draw();
-    notes.note(byte, look, &ByteSet::all());
+    note_draw(notes, byte, look);
     *log = log.then(&Entry::Draw(look, byte));
     byte
 }
@@ -152,20 +175,43 @@ fn search_noted<N: Notes>(
     ensures missed { IfNone result (log.new.entries ≡ log.old.entries ++ entries.Missed test ∷ []) }
     ensures noted { IfSome result (λ byte.
         NotesEntry (entries.Found test look byte) (N.noting notes.old) (N.noting notes.new)) }
-    ensures still { IfNone result (N.noting notes.new ≡ N.noting notes.old) }
+    ensures marks { IfNone result
+        (NotesEntry (entries.Missed test) (N.noting notes.old) (N.noting notes.new)) }
     ensures same_reference { N.name notes.new ≡ N.name notes.old }
 {
-    let bytes = may_have(&*notes, test);
     match script.until_as(test, look) {
         Some(byte) => {
-            notes.note(byte, look, &bytes);
+            note_found(notes, byte, test, look);
             *log = log.then(&Entry::Found(test, look, byte));
             Some(byte)
         }
         None => {
+            notes.miss();
             *log = log.then(&Entry::Missed(test));
             None
         }
+    }
+}
+
+// Notes a draw of which the look was seen.
+fn note_draw<N: Notes>(notes: &mut N, byte: u8, look: Look)
+    ensures noted { NotesEntry (entries.Draw look byte) (N.noting notes.old) (N.noting notes.new) }
+    ensures same_reference { N.name notes.new ≡ N.name notes.old }
+{
+    if !notes.pass(byte, Asked::Next, look) {
+        notes.note(byte, Asked::Next, look, &ByteSet::all());
+    }
+}
+
+// Notes a search that found a byte of which the look was seen.
+fn note_found<N: Notes>(notes: &mut N, byte: u8, test: ByteTest, look: Look)
+    ensures noted { IsTrue (passes test byte)
+        → NotesEntry (entries.Found test look byte) (N.noting notes.old) (N.noting notes.new) }
+    ensures same_reference { N.name notes.new ≡ N.name notes.old }
+{
+    if !notes.pass(byte, Asked::First(test), look) {
+        let bytes = may_have(&*notes, test);
+        notes.note(byte, Asked::First(test), look, &bytes);
     }
 }
 

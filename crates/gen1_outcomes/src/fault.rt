@@ -15,7 +15,8 @@ pub enum OutcomesFault {
     Places,
     /// There are more outcomes than places in the table.
     Table,
-    /// A way has more draws than there is room for, or 128 bits do not hold the weights. No known update has.
+    /// A way has more draws than there is room for or asks otherwise than an earlier one, or 128 bits do not hold the weights. No
+    /// known update has.
     Size,
 }
 

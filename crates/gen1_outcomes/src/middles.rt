@@ -1,5 +1,5 @@
 //! Positions between the two actions of a turn. Positions that agree are merged (docs/MECHANICS.md, "Link numbers").
-ghost use Rattle.std.specs.Prelude.{IfErr, IfOk, IfSome, IsFalse, IsOkUnless, IsTrue, OnOk, slice_index, slice_index_or, ℕ, ◌+◌, ◌-◌, ◌<◌, ◌≡◌, ◌≤◌};
+ghost use Rattle.std.specs.Prelude.{IfErr, IfOk, IfSome, IsFalse, IsOkUnless, IsTrue, OnOk, false, slice_index, slice_index_or, ℕ, ◌+◌, ◌-◌, ◌<◌, ◌≡◌, ◌≤◌};
 ghost use Rattle.gen1_layout.specs.Parts.{joined};
 ghost use Rattle.gen1_outcomes.specs.declared.fault.OutcomesFault.TheVariants.{Size};
 
@@ -7,7 +7,7 @@ use crate::beginning::Rest;
 use crate::chances::plus;
 use crate::fault::OutcomesFault;
 use crate::merging::hash;
-use crate::nodes::{Chance, Nodes};
+use crate::nodes::{Chance, Nodes, unknown_path};
 use crate::script::DEPTH;
 use gen1_layout::Packed;
 
@@ -36,7 +36,7 @@ pub struct Middle {
 }
 
 impl Middle {
-    ghost use Rattle.gen1_outcomes.specs.Middles.{Gets, GoOnAlike, IsTooLong};
+    ghost use Rattle.gen1_outcomes.specs.Middles.{Gets, GoOnAlike, IsTooLong, LeadsTo};
     ghost use Rattle.gen1_outcomes.specs.Nodes.{IsChance};
 
     /// Where one way leads, which has these draws.
@@ -61,7 +61,7 @@ impl Middle {
     }
 
     /// The beginning of an update.
-    pub fn beginning() -> Self
+    pub fn beginning(damage_classes: u8) -> Self
         ensures draws { result.draws ≡ 0 }
         ensures one { result.ways ≡ 1 }
     {
@@ -69,23 +69,21 @@ impl Middle {
             bytes: [0; 384],
             rest: Rest::all(),
             hash: 0,
-            path: [0; DEPTH],
+            path: unknown_path(damage_classes),
             draws: 0,
             chance: Chance { num: 1, whole: 1 },
             ways: 1,
         }
     }
 
-    /// The bytes of the way to this position, and then these.
-    pub fn path_to(&self, further: &[u8; DEPTH]) -> [u8; DEPTH]
-        ensures first { (k : ℕ) → k < self.now.draws
-            → slice_index result k ≡ slice_index self.now.path k }
-        ensures further { (k : ℕ) → self.now.draws ≤ k → k < 24
-            → slice_index result k ≡ slice_index further.now (k - self.now.draws) }
+    /// The bytes of the way to this position, and then those of these draws.
+    pub fn path_to(&self, nodes: &Nodes) -> [u8; DEPTH]
+        ensures { LeadsTo self.now nodes.now result }
     {
         let mut path = self.path;
-        'places: for place in self.draws..DEPTH {
-            path[place] = further[place - self.draws];
+        let known = nodes.len.min(DEPTH - self.draws);
+        'places: for place in 0..known {
+            path[self.draws + place] = nodes.list[place].byte;
         }
         path
     }
@@ -98,6 +96,7 @@ impl Middle {
     pub fn chance_with(&self, nodes: &Nodes) -> Result<Chance, OutcomesFault>
         ensures few { IfOk result (λ _. self.now.draws + nodes.now.len ≤ 24) }
         ensures chance { IfOk result (λ c. IsChance nodes.now c) }
+        ensures fits { IfOk result (λ _. nodes.now.too_large ≡ false) }
         ensures size { IsOkUnless result Size }
         ensures large { IfErr result (λ _. IsTooLong self.now nodes.now) }
     {
@@ -158,7 +157,7 @@ impl Middles {
         ensures { result.len ≡ 0 }
     {
         Middles {
-            list: [Middle::beginning(); MIDDLES],
+            list: [Middle::beginning(0); MIDDLES],
             len: 0,
         }
     }

@@ -10,7 +10,7 @@ use crate::byte_set::ByteSet;
 use crate::chances::is_below;
 use crate::options::OutcomeOptions;
 use crate::script::DEPTH;
-use gen1_rolls::Look;
+use gen1_rolls::{ByteTest, Look};
 
 /// A probability: `num` of `whole`.
 #[derive(Clone, Copy, PartialEq, Eq, Debug, Drop)]
@@ -20,6 +20,17 @@ pub struct Chance {
     /// The denominator.
     pub whole: u128,
     ghost positive: { 0 < whole },
+}
+
+/// Which byte is asked for.
+#[derive(Clone, Copy, PartialEq, Eq, Debug, Drop)]
+pub enum Asked {
+    /// A draw: the next one.
+    Next,
+    /// A search: the first that passes the test.
+    First(ByteTest),
+    /// That is not known: a walk in a plain struct does not keep it.
+    Unknown,
 }
 
 /// A draw or a search of a way.
@@ -128,6 +139,15 @@ impl Node {
         node
     }
 
+    // Whether it has this byte, of which this is looked at.
+    #[inline(always)] // docs/SPEED.md, "Hints on inlining"
+    fn is_as(&self, byte: u8, look: Look) -> bool
+        ensures byte { IsTrue result → self.now.byte ≡ byte }
+        ensures look { IsTrue result → self.now.look ≡ look }
+    {
+        self.byte == byte && self.look == look
+    }
+
     // Takes the byte, and all that are alike to it, out of the rest.
     fn take(&mut self, byte: u8)
         ensures { Takes byte self.old self.new }
@@ -207,12 +227,55 @@ impl Node {
         let mut num = self.count;
         let mut whole = self.total;
         'halves: for _ in 0..8 {
+            if num % 2 != 0 || whole % 2 != 0 {
+                break;
+            }
             let half = halved(num, whole);
             num = half.0;
             whole = half.1;
         }
         (num, whole)
     }
+}
+
+// Whether the same byte is asked for.
+#[inline(always)] // docs/SPEED.md, "Hints on inlining"
+fn ask_alike(one: Asked, other: Asked) -> bool
+    ensures { IsTrue result → one ≡ other }
+{
+    match (one, other) {
+        (Asked::Next, Asked::Next) => true,
+        (Asked::First(test), Asked::First(before)) => are_same(test, before),
+        _ => false,
+    }
+}
+
+fn are_same(one: ByteTest, other: ByteTest) -> bool
+    ensures { IsTrue result → one ≡ other }
+{
+    match (one, other) {
+        (ByteTest::RotatedAtLeast(least), ByteTest::RotatedAtLeast(before)) => least == before,
+        (ByteTest::PositiveBelow(bound), ByteTest::PositiveBelow(before)) => bound == before,
+        (ByteTest::NotMultiple(divisor), ByteTest::NotMultiple(before)) => divisor == before,
+        (ByteTest::PlaceOf(four), ByteTest::PlaceOf(before)) => have_same(four, before),
+        _ => false,
+    }
+}
+
+#[tactic(auto, using(crate::proofs::Paths::four_same))]
+fn have_same(one: [bool; 4], other: [bool; 4]) -> bool
+    ensures { IsTrue result → one ≡ other }
+{
+    agree(one, other)
+}
+
+fn agree(one: [bool; 4], other: [bool; 4]) -> bool
+    ensures first { IsTrue result → slice_index_or one 0 false ≡ slice_index_or other 0 false }
+    ensures second { IsTrue result → slice_index_or one 1 false ≡ slice_index_or other 1 false }
+    ensures third { IsTrue result → slice_index_or one 2 false ≡ slice_index_or other 2 false }
+    ensures fourth { IsTrue result → slice_index_or one 3 false ≡ slice_index_or other 3 false }
+{
+    one[0] == other[0] && one[1] == other[1] && one[2] == other[2] && one[3] == other[3]
 }
 
 // The bytes on the other side of the bound, and how many are on the side of this byte.
@@ -250,11 +313,14 @@ fn halved(num: u16, whole: u16) -> (u16, u16)
 pub struct Nodes {
     /// The draws, in the first places.
     pub list: [Node; DEPTH],
+    /// Which byte each of them asks for.
+    pub asked: [Asked; DEPTH],
     /// How many there are.
     pub len: usize,
     /// How many of them this way has had so far.
     pub at: usize,
-    /// Whether there were more than there is room for, or 128 bits do not hold a probability.
+    /// Whether there were more than there is room for, 128 bits do not hold a probability, a search found nothing, or a way
+    /// did not ask what an earlier one asked.
     pub too_large: bool,
     /// The probability of what comes before the first draw.
     pub before: Chance,
@@ -264,17 +330,19 @@ pub struct Nodes {
 }
 
 impl Nodes {
-    ghost use Rattle.gen1_outcomes.specs.Nodes.{AllDone, AreBytes, AreLeft, AreToCome, IsChance, IsLeftOut, IsTooLarge, LeadsOn, Notes};
+    ghost use Rattle.gen1_outcomes.specs.Nodes.{AllDone, AreBytes, AreLeft, AreToCome, HasAsked, IsChance, IsLeftOut, IsTooLarge, LeadsOn, Notes, Passes};
 
     /// No draw yet, and nothing before it.
     pub fn new(options: OutcomeOptions) -> Self
         ensures options { result.options ≡ options }
         ensures empty { result.len ≡ 0 }
+        ensures at { result.at ≡ 0 }
         ensures fits { result.too_large ≡ false }
         ensures before { (result.before.num ≡ 1) × (result.before.whole ≡ 1) }
     {
         Nodes {
             list: [Node::none(); DEPTH],
+            asked: [Asked::Unknown; DEPTH],
             len: 0,
             at: 0,
             too_large: false,
@@ -287,6 +355,7 @@ impl Nodes {
     pub fn clear(&mut self, before: Chance)
         ensures options { self.new.options ≡ self.old.options }
         ensures empty { self.new.len ≡ 0 }
+        ensures at { self.new.at ≡ 0 }
         ensures fits { self.new.too_large ≡ false }
         ensures before { self.new.before ≡ before }
     {
@@ -317,14 +386,50 @@ impl Nodes {
         self.at >= self.len && !self.is_left_out()
     }
 
-    /// Notes that a draw has this byte, of those that it may have.
-    pub fn note(&mut self, byte: u8, look: Look, may_have: &ByteSet)
-        ensures passed { self.old.at < self.old.len → self.new ≡ record self.old { at = self.old.at + 1 } }
-        ensures noted { self.old.len ≤ self.old.at → Notes byte look may_have.now self.old self.new }
+    /// Goes past the next draw, if it is one of this way. The way is marked as too large if the draw has another byte, or if
+    /// an earlier way asked something else of it.
+    #[inline(always)] // docs/SPEED.md, "Hints on inlining"
+    pub fn pass(&mut self, byte: u8, asked: Asked, look: Look) -> bool
+        ensures passed { IsTrue result → Passes byte asked look self.old self.new }
+        ensures new { IsFalse result → self.old.len ≤ self.old.at }
+        ensures kept { IsFalse result → self.new ≡ self.old }
     {
-        if self.at < self.len {
+        if self.at >= self.len {
+            return false;
+        }
+        if self.has_asked(byte, asked, look) {
             self.at += 1;
-        } else if !self.is_left_out() {
+            return true;
+        }
+        self.too_large = true;
+        self.at += 1;
+        true
+    }
+
+    // Whether the next draw has this byte, and an earlier way asked the same of it, as far as that is known.
+    #[inline(always)] // docs/SPEED.md, "Hints on inlining"
+    fn has_asked(&self, byte: u8, asked: Asked, look: Look) -> bool
+        requires { self.now.at < self.now.len }
+        ensures { IsTrue result → HasAsked byte asked look self.now }
+    {
+        if ask_alike(self.asked[self.at], asked) {
+            return self.list[self.at].is_as(byte, look);
+        }
+        self.asked[self.at] == Asked::Unknown
+    }
+
+    /// A search found nothing: the way is marked as too large. No known update has one.
+    pub fn miss(&mut self)
+        ensures { self.new ≡ record self.old { too_large = true } }
+    {
+        self.too_large = true;
+    }
+
+    /// Notes that a draw that no way had before has this byte, of those that it may have.
+    pub fn note(&mut self, byte: u8, asked: Asked, look: Look, may_have: &ByteSet)
+        ensures { self.old.len ≤ self.old.at → Notes byte asked look may_have.now self.old self.new }
+    {
+        if !self.is_left_out() {
             match self.chance() {
                 Some(above) if self.len < DEPTH => {
                     self.list[self.len] = Node::new(
@@ -334,6 +439,7 @@ impl Nodes {
                         above,
                         may_have,
                     );
+                    self.asked[self.len] = asked;
                     self.len += 1;
                     self.at = self.len;
                 }
@@ -370,7 +476,7 @@ impl Nodes {
         ensures { (k : ℕ) → (none : Node) → k < self.now.len
             → slice_index result k ≡ (slice_index_or self.now.list k none).byte }
     {
-        let mut path = not_known(middle_of_last(self.options.damage_classes));
+        let mut path = unknown_path(self.options.damage_classes);
         'places: for place in 0..self.len {
             path[place] = self.list[place].byte;
         }
@@ -380,6 +486,7 @@ impl Nodes {
     /// The probability of the way, with what comes before it. `None` if it has too many draws, or if 128 bits do not hold it.
     pub fn chance(&self) -> Option<Chance>
         ensures some { IfSome result (λ c. IsChance self.now c) }
+        ensures fits { IfSome result (λ _. self.now.too_large ≡ false) }
         ensures none { IfNone result (IsTooLarge self.now) }
     {
         if self.too_large {
@@ -390,6 +497,13 @@ impl Nodes {
             self.list[self.len - 1].chance()
         }
     }
+}
+
+/// The bytes of a way of which no draw is known yet.
+pub fn unknown_path(damage_classes: u8) -> [u8; DEPTH]
+    ensures { rotated_right_1 (slice_index result 0) ≡ middle_factor damage_classes }
+{
+    not_known(middle_of_last(damage_classes))
 }
 
 // The bytes of draws that are not known yet: the one that a roll of damage is to have. A search that does not accept it

@@ -139,7 +139,8 @@ fn add_all(
     if ways.has_two_actions() {
         return add_in_parts(ways, successors, table, tally);
     }
-    finish(ways, &Middle::beginning(), successors, table, tally)
+    let whole = Middle::beginning(ways.options().damage_classes);
+    finish(ways, &whole, successors, table, tally)
 }
 
 // First, the ways up to the second action. Ways that reach the same position are played on once.

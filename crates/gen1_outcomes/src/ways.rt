@@ -1,5 +1,5 @@
 //! Each way of an update apart (docs/MECHANICS.md, "Link numbers").
-ghost use Rattle.std.specs.Prelude.{IfErr, IfNone, IfOk, IfSome, IsOk, IsOkUnless, Some, [], ◌≡◌};
+ghost use Rattle.std.specs.Prelude.{IfErr, IfNone, IfOk, IfSome, IsOk, IsOkUnless, Some, [], false, ◌≡◌};
 ghost use Rattle.gen1_machine.specs.State.{State};
 ghost use Rattle.gen1_layout.specs.Within.{Stands};
 ghost use Rattle.gen1_layout.specs.Words.{HasRoom, Reads};
@@ -157,6 +157,7 @@ impl Ways {
     pub(crate) fn restart(&self, middle: &Middle) -> Nodes
         ensures options { result.options ≡ self.now.options }
         ensures empty { result.len ≡ 0 }
+        ensures at { result.at ≡ 0 }
         ensures before { result.before ≡ middle.now.chance }
     {
         let mut nodes = Nodes::new(self.options);
@@ -182,11 +183,12 @@ impl Ways {
             → AreOffered s self.now.one self.now.two
             → FollowsBy s self.now.one self.now.two self.now.options battle.new }
         ensures chance { IfOk result (λ c. IsChance nodes.new c) }
+        ensures fits { IfOk result (λ _. nodes.new.too_large ≡ false) }
         ensures size { IsOkUnless result Size }
         ensures large { IfErr result (λ _. IsTooLong middle.now nodes.new) }
     {
         *battle = copy_of(&self.start);
-        let path = middle.path_to(&nodes.path());
+        let path = middle.path_to(&*nodes);
         let notes = After {
             left: middle.draws,
             nodes: &mut *nodes,

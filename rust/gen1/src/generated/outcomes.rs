@@ -408,7 +408,7 @@ mod explorer {
 
     use crate::generated::outcomes::byte_set::ByteSet;
     use crate::generated::outcomes::log::{Entry, Log};
-    use crate::generated::outcomes::nodes::Nodes;
+    use crate::generated::outcomes::nodes::{Asked, Nodes};
     use crate::generated::outcomes::script::{DEPTH, Script};
     use crate::generated::rolls::{ByteTest, Look, Rolls};
 
@@ -418,8 +418,14 @@ mod explorer {
         /// Whether the next draw is one that no way had before.
         fn is_new(&self) -> bool;
 
-        /// Notes that a draw has this byte, of those that it may have.
-        fn note(&mut self, byte: u8, look: Look, may_have: &ByteSet);
+        /// Goes past the next draw, if it is one of the first part or of this way.
+        fn pass(&mut self, byte: u8, asked: Asked, look: Look) -> bool;
+
+        /// Notes that a draw that no way had before has this byte, of those that it may have.
+        fn note(&mut self, byte: u8, asked: Asked, look: Look, may_have: &ByteSet);
+
+        /// Notes that a search found nothing.
+        fn miss(&mut self);
     }
 
     /// Nodes for the draws after a first part of the update, which may have no draw. The draws of the first part are not noted.
@@ -442,12 +448,22 @@ mod explorer {
             self.left == 0 && self.nodes.is_new()
         }
 
-        fn note(&mut self, byte: u8, look: Look, may_have: &ByteSet) {
+        #[inline(always)] // docs/SPEED.md, "Hints on inlining"
+        fn pass(&mut self, byte: u8, asked: Asked, look: Look) -> bool {
             if self.left == 0 {
-                self.nodes.note(byte, look, may_have);
-            } else {
-                self.left -= 1;
+                return self.nodes.pass(byte, asked, look);
             }
+            self.left -= 1;
+            true
+        }
+
+        #[inline(never)] // docs/SPEED.md, "Hints on inlining"
+        fn note(&mut self, byte: u8, asked: Asked, look: Look, may_have: &ByteSet) {
+            self.nodes.note(byte, asked, look, may_have);
+        }
+
+        fn miss(&mut self) {
+            self.nodes.miss();
         }
     }
 
@@ -492,7 +508,7 @@ mod explorer {
     // Draws a byte, and notes and logs it with its look.
     fn draw_noted<N: Notes>(script: &mut Script, notes: &mut N, log: &mut Log, look: Look) -> u8 {
         let byte = script.draw();
-        notes.note(byte, look, &ByteSet::all());
+        note_draw(notes, byte, look);
         *log = log.then(&Entry::Draw(look, byte));
         byte
     }
@@ -505,17 +521,32 @@ mod explorer {
         test: ByteTest,
         look: Look,
     ) -> Option<u8> {
-        let bytes = may_have(&*notes, test);
         match script.until_as(test, look) {
             Some(byte) => {
-                notes.note(byte, look, &bytes);
+                note_found(notes, byte, test, look);
                 *log = log.then(&Entry::Found(test, look, byte));
                 Some(byte)
             }
             None => {
+                notes.miss();
                 *log = log.then(&Entry::Missed(test));
                 None
             }
+        }
+    }
+
+    // Notes a draw of which the look was seen.
+    fn note_draw<N: Notes>(notes: &mut N, byte: u8, look: Look) {
+        if !notes.pass(byte, Asked::Next, look) {
+            notes.note(byte, Asked::Next, look, &ByteSet::all());
+        }
+    }
+
+    // Notes a search that found a byte of which the look was seen.
+    fn note_found<N: Notes>(notes: &mut N, byte: u8, test: ByteTest, look: Look) {
+        if !notes.pass(byte, Asked::First(test), look) {
+            let bytes = may_have(&*notes, test);
+            notes.note(byte, Asked::First(test), look, &bytes);
         }
     }
 
@@ -545,7 +576,8 @@ mod fault {
         Places,
         /// There are more outcomes than places in the table.
         Table,
-        /// A way has more draws than there is room for, or 128 bits do not hold the weights. No known update has.
+        /// A way has more draws than there is room for or asks otherwise than an earlier one, or 128 bits do not hold the weights. No
+        /// known update has.
         Size,
     }
 
@@ -872,7 +904,7 @@ mod middles {
     use crate::generated::outcomes::chances::plus;
     use crate::generated::outcomes::fault::OutcomesFault;
     use crate::generated::outcomes::merging::hash;
-    use crate::generated::outcomes::nodes::{Chance, Nodes};
+    use crate::generated::outcomes::nodes::{Chance, Nodes, unknown_path};
     use crate::generated::outcomes::script::DEPTH;
     use crate::generated::layout::Packed;
 
@@ -915,23 +947,24 @@ mod middles {
         }
 
         /// The beginning of an update.
-        pub fn beginning() -> Self {
+        pub fn beginning(damage_classes: u8) -> Self {
             Middle {
                 bytes: [0; 384],
                 rest: Rest::all(),
                 hash: 0,
-                path: [0; DEPTH],
+                path: unknown_path(damage_classes),
                 draws: 0,
                 chance: Chance { num: 1, whole: 1 },
                 ways: 1,
             }
         }
 
-        /// The bytes of the way to this position, and then these.
-        pub fn path_to(&self, further: &[u8; DEPTH]) -> [u8; DEPTH] {
+        /// The bytes of the way to this position, and then those of these draws.
+        pub fn path_to(&self, nodes: &Nodes) -> [u8; DEPTH] {
             let mut path = self.path;
-            for place in self.draws..DEPTH {
-                path[place] = further[place - self.draws];
+            let known = nodes.len.min(DEPTH - self.draws);
+            for place in 0..known {
+                path[self.draws + place] = nodes.list[place].byte;
             }
             path
         }
@@ -989,7 +1022,7 @@ mod middles {
         /// None yet.
         pub fn new() -> Self {
             Middles {
-                list: [Middle::beginning(); MIDDLES],
+                list: [Middle::beginning(0); MIDDLES],
                 len: 0,
             }
         }
@@ -1053,7 +1086,7 @@ mod nodes {
     use crate::generated::outcomes::chances::is_below;
     use crate::generated::outcomes::options::OutcomeOptions;
     use crate::generated::outcomes::script::DEPTH;
-    use crate::generated::rolls::Look;
+    use crate::generated::rolls::{ByteTest, Look};
 
     /// A probability: `num` of `whole`.
     #[derive(Clone, Copy, PartialEq, Eq, Debug)]
@@ -1062,6 +1095,17 @@ mod nodes {
         pub num: u128,
         /// The denominator.
         pub whole: u128,
+    }
+
+    /// Which byte is asked for.
+    #[derive(Clone, Copy, PartialEq, Eq, Debug)]
+    pub enum Asked {
+        /// A draw: the next one.
+        Next,
+        /// A search: the first that passes the test.
+        First(ByteTest),
+        /// That is not known: a walk in a plain struct does not keep it.
+        Unknown,
     }
 
     /// A draw or a search of a way.
@@ -1135,6 +1179,12 @@ mod nodes {
             node
         }
 
+        // Whether it has this byte, of which this is looked at.
+        #[inline(always)] // docs/SPEED.md, "Hints on inlining"
+        fn is_as(&self, byte: u8, look: Look) -> bool {
+            self.byte == byte && self.look == look
+        }
+
         // Takes the byte, and all that are alike to it, out of the rest.
         fn take(&mut self, byte: u8) {
             let class = alike_to(self.damage_classes, self.look, byte, &self.rest);
@@ -1195,12 +1245,43 @@ mod nodes {
             let mut num = self.count;
             let mut whole = self.total;
             for _ in 0..8 {
+                if num % 2 != 0 || whole % 2 != 0 {
+                    break;
+                }
                 let half = halved(num, whole);
                 num = half.0;
                 whole = half.1;
             }
             (num, whole)
         }
+    }
+
+    // Whether the same byte is asked for.
+    #[inline(always)] // docs/SPEED.md, "Hints on inlining"
+    fn ask_alike(one: Asked, other: Asked) -> bool {
+        match (one, other) {
+            (Asked::Next, Asked::Next) => true,
+            (Asked::First(test), Asked::First(before)) => are_same(test, before),
+            _ => false,
+        }
+    }
+
+    fn are_same(one: ByteTest, other: ByteTest) -> bool {
+        match (one, other) {
+            (ByteTest::RotatedAtLeast(least), ByteTest::RotatedAtLeast(before)) => least == before,
+            (ByteTest::PositiveBelow(bound), ByteTest::PositiveBelow(before)) => bound == before,
+            (ByteTest::NotMultiple(divisor), ByteTest::NotMultiple(before)) => divisor == before,
+            (ByteTest::PlaceOf(four), ByteTest::PlaceOf(before)) => have_same(four, before),
+            _ => false,
+        }
+    }
+
+    fn have_same(one: [bool; 4], other: [bool; 4]) -> bool {
+        agree(one, other)
+    }
+
+    fn agree(one: [bool; 4], other: [bool; 4]) -> bool {
+        one[0] == other[0] && one[1] == other[1] && one[2] == other[2] && one[3] == other[3]
     }
 
     // The bytes on the other side of the bound, and how many are on the side of this byte.
@@ -1227,11 +1308,14 @@ mod nodes {
     pub struct Nodes {
         /// The draws, in the first places.
         pub list: [Node; DEPTH],
+        /// Which byte each of them asks for.
+        pub asked: [Asked; DEPTH],
         /// How many there are.
         pub len: usize,
         /// How many of them this way has had so far.
         pub at: usize,
-        /// Whether there were more than there is room for, or 128 bits do not hold a probability.
+        /// Whether there were more than there is room for, 128 bits do not hold a probability, a search found nothing, or a way
+        /// did not ask what an earlier one asked.
         pub too_large: bool,
         /// The probability of what comes before the first draw.
         pub before: Chance,
@@ -1244,6 +1328,7 @@ mod nodes {
         pub fn new(options: OutcomeOptions) -> Self {
             Nodes {
                 list: [Node::none(); DEPTH],
+                asked: [Asked::Unknown; DEPTH],
                 len: 0,
                 at: 0,
                 too_large: false,
@@ -1276,11 +1361,39 @@ mod nodes {
             self.at >= self.len && !self.is_left_out()
         }
 
-        /// Notes that a draw has this byte, of those that it may have.
-        pub fn note(&mut self, byte: u8, look: Look, may_have: &ByteSet) {
-            if self.at < self.len {
+        /// Goes past the next draw, if it is one of this way. The way is marked as too large if the draw has another byte, or if
+        /// an earlier way asked something else of it.
+        #[inline(always)] // docs/SPEED.md, "Hints on inlining"
+        pub fn pass(&mut self, byte: u8, asked: Asked, look: Look) -> bool {
+            if self.at >= self.len {
+                return false;
+            }
+            if self.has_asked(byte, asked, look) {
                 self.at += 1;
-            } else if !self.is_left_out() {
+                return true;
+            }
+            self.too_large = true;
+            self.at += 1;
+            true
+        }
+
+        // Whether the next draw has this byte, and an earlier way asked the same of it, as far as that is known.
+        #[inline(always)] // docs/SPEED.md, "Hints on inlining"
+        fn has_asked(&self, byte: u8, asked: Asked, look: Look) -> bool {
+            if ask_alike(self.asked[self.at], asked) {
+                return self.list[self.at].is_as(byte, look);
+            }
+            self.asked[self.at] == Asked::Unknown
+        }
+
+        /// A search found nothing: the way is marked as too large. No known update has one.
+        pub fn miss(&mut self) {
+            self.too_large = true;
+        }
+
+        /// Notes that a draw that no way had before has this byte, of those that it may have.
+        pub fn note(&mut self, byte: u8, asked: Asked, look: Look, may_have: &ByteSet) {
+            if !self.is_left_out() {
                 match self.chance() {
                     Some(above) if self.len < DEPTH => {
                         self.list[self.len] = Node::new(
@@ -1290,6 +1403,7 @@ mod nodes {
                             above,
                             may_have,
                         );
+                        self.asked[self.len] = asked;
                         self.len += 1;
                         self.at = self.len;
                     }
@@ -1318,7 +1432,7 @@ mod nodes {
 
         /// The bytes of the way. The places after them have those of draws that are not known yet.
         pub fn path(&self) -> [u8; DEPTH] {
-            let mut path = not_known(middle_of_last(self.options.damage_classes));
+            let mut path = unknown_path(self.options.damage_classes);
             for place in 0..self.len {
                 path[place] = self.list[place].byte;
             }
@@ -1335,6 +1449,11 @@ mod nodes {
                 self.list[self.len - 1].chance()
             }
         }
+    }
+
+    /// The bytes of a way of which no draw is known yet.
+    pub fn unknown_path(damage_classes: u8) -> [u8; DEPTH] {
+        not_known(middle_of_last(damage_classes))
     }
 
     // The bytes of draws that are not known yet: the one that a roll of damage is to have. A search that does not accept it
@@ -1462,7 +1581,8 @@ mod outcomes {
         if ways.has_two_actions() {
             return add_in_parts(ways, successors, table, tally);
         }
-        finish(ways, &Middle::beginning(), successors, table, tally)
+        let whole = Middle::beginning(ways.options().damage_classes);
+        finish(ways, &whole, successors, table, tally)
     }
 
     // First, the ways up to the second action. Ways that reach the same position are played on once.
@@ -2102,7 +2222,7 @@ mod ways {
             battle: &mut Packed,
         ) -> Result<Chance, OutcomesFault> {
             *battle = copy_of(&self.start);
-            let path = middle.path_to(&nodes.path());
+            let path = middle.path_to(&*nodes);
             let notes = After {
                 left: middle.draws,
                 nodes: &mut *nodes,

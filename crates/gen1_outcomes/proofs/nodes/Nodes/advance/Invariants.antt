@@ -7,6 +7,8 @@ abbrev pub invariant-places : goal.invariant-places
 invariant-places l =
     record {
       list : l.self.list ≡ l.fn.self.list;
+      at : l.self.at ≡ 0;
+      asked : l.self.asked ≡ l.fn.self.asked;
       options : l.self.options ≡ l.fn.self.options;
       few : l.self.len + l.counter ≤ 24;
       shorter : l.self.len ≤ l.fn.self.len;

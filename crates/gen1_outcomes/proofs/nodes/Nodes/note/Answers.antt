@@ -1,4 +1,5 @@
 use Rattle.std.proofs.Common.{ap, arith, cond, get_or, get_or-set_other, get_or-set_same, inl, inr, length, refl, set, subst, sym, ◌<◌, ◌≡◌, ◌≢◌, ◌∙◌, ◌⊎◌, ℕ}
+use Rattle.gen1_outcomes.specs.declared.nodes.Asked.TheVariants.{Unknown}
 use Rattle.gen1_outcomes.specs.declared.nodes.Chance.{Chance}
 use Rattle.gen1_outcomes.specs.declared.nodes.Node.{Node}
 use Rattle.gen1_outcomes.specs.Bytes.{has}
@@ -8,22 +9,23 @@ use Rattle.gen1_outcomes.proofs.Walking.{covers}
 use Rattle.gen1_outcomes.proofs.nodes.Nodes.note.Goals as goal
 use Rattle.gen1_outcomes.proofs.nodes.Nodes.note.Goals.{in_default-via-in-Some+else-self-lt-DEPTH, in_default-via-in_default}
 
-pub returns-in_default-clause-noted : goal.returns-in_default-clause-noted
-returns-in_default-clause-noted c le =
+pub returns-in_default : goal.returns-in_default
+returns-in_default c le =
     let why : (c.args.self.now.len ≡ 24) ⊎ IsTooLarge c.args.self.now =
     elim c.in_default.branch [
       | in_default-via-in-Some+else-self-lt-DEPTH w ↦ inl (omega (arith, w.if-self-lt-DEPTH.false, c.args.self.now.few))
       | in_default-via-in_default w ↦ inr w.in_default.ensures.none
     ]
     in
-    inr (inr record { marked = refl; list = refl; length = refl; at = refl; before = refl; options = refl; why = why })
+    inr (inr record { marked = refl; list = refl; asked = refl; length = refl; at = refl; before = refl; options = refl; why = why })
 
-pub returns-in-Some-clause-noted : goal.returns-in-Some-clause-noted
-returns-in-Some-clause-noted c le =
+pub returns-in-Some : goal.returns-in-Some
+returns-in-Some c le =
     let old = c.args.self.now in
     let node = c.new.result in
     let may = c.args.may_have.now in
     let inside : old.len < length old.list = omega arith in
+    let room : old.len < length old.asked = omega arith in
     let before : (k : ℕ) (past : Node) → k < old.len → get_or (set old.list old.len node) k past ≡ get_or old.list k past =
     λ k past lt. let ne : k ≢ old.len = omega (arith, lt) in get_or-set_other old.list old.len k node past ne
     in
@@ -33,6 +35,9 @@ returns-in-Some-clause-noted c le =
     in
     inl (record {
       length = refl;
+      at = refl;
+      asks = get_or-set_same old.asked old.len c.args.asked Unknown room;
+      asked = λ k lt. let ne : k ≢ old.len = omega (arith, lt) in get_or-set_other old.asked old.len k c.args.asked Unknown ne;
       options = refl;
       before = before;
       byte = λ past. ap (λ (n : Node). n.byte) (here past) ∙ c.new.ensures.byte;

@@ -1,4 +1,4 @@
-use Rattle.std.proofs.Common.{◌+◌, ◌-◌, ◌≡◌, List, ap, arith, rules, slice_index, subst, sym, ◌∙◌}
+use Rattle.std.proofs.Common.{◌≡◌, List, rules, subst, sym, ◌∙◌}
 use Rattle.std.specs.Borrow.{GName}
 use Rattle.gen1_layout.specs.Parts.{Parts}
 use Rattle.gen1_layout.specs.Within.{Stands}
@@ -37,12 +37,7 @@ returns-clause-plays c =
     in
     record {
       path = c.path_to-path.result;
-      leads_to = record {
-        first = c.path_to-path.ensures.first;
-        further = λ k past lt few.
-            let back : c.args.middle.now.draws + k - c.args.middle.now.draws ≡ k = omega arith in
-            c.path_to-path.ensures.further (c.args.middle.now.draws + k) (omega arith) few ∙ ap (slice_index c.path.result) back ∙ c.path.ensures k past lt;
-      };
+      leads_to = c.path_to-path.ensures;
       way = way.0;
       leads = way.1;
     }
