@@ -1,5 +1,6 @@
 -- Lemmas.
 pub mod Apart
+pub mod Complete
 pub mod Lists
 pub mod Logs
 pub mod Offered

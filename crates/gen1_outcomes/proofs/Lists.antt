@@ -16,7 +16,7 @@ use Rattle.gen1_outcomes.specs.Merging.{IsFull}
 use Rattle.gen1_outcomes.specs.declared.middles.Middle.{Middle}
 use Rattle.gen1_outcomes.specs.declared.middles.Middles.{Middles}
 use Rattle.gen1_outcomes.specs.Middles.{Gets, GoOnAlike, Joins}
-use Rattle.gen1_outcomes.specs.Listing.{AreThose, AreThoseOr, EachFollows, FollowsBy, StillFollow, battle_at}
+use Rattle.gen1_outcomes.specs.Listing.{AreThose, AreThoseOr, EachFollows, FollowsBy, KeepsFirst, StillFollow, battle_at}
 
 same_or : (m n : ℕ) → (m ≡ n) ⊎ (m ≢ n)
 same_or m n = grind arith
@@ -40,6 +40,22 @@ on_ok_those battle other before at count old now new (Ok done) e f those more =
     those_then battle before count old now new those
     (subst (λ (b : Parts). AreThoseOr b before now count new) f (subst (λ (n : ℕ). AreThoseOr other n now count new) e more))
 on_ok_those battle other before at count old now new (Err why) e f those more = tt
+
+-- The first battles stay where all do, and where one is put after them.
+pub on_ok_stay : (count : ℕ) (old new : List Successor) (r : Result (Unit {0}) OutcomesFault) → AreThose old new → OnOk r (KeepsFirst count old new)
+on_ok_stay count old new (Ok done) those = λ k none lt. those k none
+on_ok_stay count old new (Err why) those = tt
+
+pub on_ok_stay_both : (count : ℕ) (old now new : List Successor) (r : Result (Unit {0}) OutcomesFault) → AreThose old now → AreThose now new → OnOk r (KeepsFirst count old new)
+on_ok_stay_both count old now new r one other = on_ok_stay count old new r (λ k none. other k none ∙ one k none)
+
+pub on_ok_put : (count at : ℕ) (old now new : List Successor) (x : Successor) (r : Result (Unit {0}) OutcomesFault) → AreThose old now → at ≡ count
+    → OnOk r (new ≡ set now at x) → OnOk r (KeepsFirst count old new)
+on_ok_put count at old now new x (Ok done) those e is =
+    λ k none lt.
+    let ne : k ≢ at = omega (arith, lt, e) in
+    ap (λ (xs : List Successor). battle_at xs k none) is ∙ ap (λ (y : Successor). y.battle) (get_or-set_other now at k x none ne) ∙ those k none
+on_ok_put count at old now new x (Err why) those e is = tt
 
 -- A place is written.
 pub written : (xs : List Successor) (at : ℕ) (x : Successor) → at < length xs → AreThoseOr x.battle at xs (at + 1) (set xs at x)

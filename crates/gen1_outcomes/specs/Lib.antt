@@ -9,6 +9,7 @@ pub mod Following
 pub mod Listing
 pub mod Logs
 pub mod Middles
+pub mod Complete
 pub mod Merging
 pub mod Shares
 pub mod Plain

@@ -61,6 +61,10 @@ AreThoseOr battle before old count new =
 abbrev pub AreThose : List Successor → List Successor → Type 0
 AreThose old new = (k : ℕ) → (past : Successor) → battle_at new k past ≡ battle_at old k past
 
+-- The first battles stay in their places.
+abbrev pub KeepsFirst : ℕ → List Successor → List Successor → Type 0
+KeepsFirst count old new = (k : ℕ) → (past : Successor) → k < count → battle_at new k past ≡ battle_at old k past
+
 -- Where each of the first battles could follow from the pair of a walk, each of those afterwards can.
 abbrev pub StillFollow : Walk → ℕ → List Successor → ℕ → List Successor → Type 0
 StillFollow w before old count new =

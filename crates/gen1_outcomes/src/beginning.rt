@@ -2,7 +2,7 @@
 
 ghost use Rattle.std.specs.Prelude.{false, ◌≡◌};
 ghost use Rattle.gen1_rolls.specs.Draws.{Steps};
-ghost use Rattle.gen1_layout.specs.Words.{Reads};
+ghost use Rattle.gen1_layout.specs.Words.{Reads, ReadsPacked};
 ghost use Rattle.gen1_outcomes.specs.Beginning.{BeginsTurn, asks_for_move, have_two_actions, is_move};
 
 use gen1_events::Silent;
@@ -26,6 +26,7 @@ pub struct Rest {
 
 /// Whether both sides use a move, so that the update has two actions.
 pub(crate) fn have_two_actions(battle: &Packed, one: &Choice, two: &Choice) -> bool
+    ensures packs { ReadsPacked battle.now result (have_two_actions one.now two.now) }
     ensures stands { Reads battle.now result (have_two_actions one.now two.now) }
 {
     asks_for_move(battle.request(Side::One)) && is_move(one) && is_move(two)

@@ -3,7 +3,7 @@ ghost use Rattle.std.specs.Prelude.{IfErr, IfOk, IsFalse, IsOkUnless, IsTrue, On
 ghost use Rattle.std.specs.Int.{IsGcd};
 ghost use Rattle.gen1_layout.specs.Parts.{joined};
 ghost use Rattle.gen1_outcomes.specs.Chances.{IsBelow};
-ghost use Rattle.gen1_outcomes.specs.Listing.{AreThose, AreThoseOr};
+ghost use Rattle.gen1_outcomes.specs.Listing.{AreThose, AreThoseOr, KeepsFirst};
 ghost use Rattle.gen1_outcomes.specs.declared.fault.OutcomesFault.TheVariants.{Size};
 ghost use Rattle.gen1_outcomes.specs.Merging.{IsIndexed, IsNew, IsPlace, IsShort, LeavesOut, StayIndexed, hash_of, mixed, with_block, with_member, with_side, word_at};
 ghost use Rattle.gen1_outcomes.specs.Shares.{Adds, IsLeft, KeepsShares, TakesEach, weight_at};
@@ -81,6 +81,7 @@ pub fn add(
     ensures left_out { OnOk result (LeavesOut tally.old tally.new) }
     ensures adds { OnOk result (Adds battle.now chance tally.old tally.new successors.old
         successors.new) }
+    ensures first { OnOk result (KeepsFirst tally.old.count successors.old successors.new) }
     ensures takes { TakesEach tally.old tally.new table.old table.new }
     ensures indexed { OnOk result (StayIndexed tally.old successors.old table.old tally.new
         successors.new table.new) }
@@ -129,6 +130,7 @@ pub fn leave_out(
 }
 
 // Puts a successor into the next place, and its number into the table.
+#[tactic(auto, using(crate::proofs::Lists::written))]
 fn append(
     successors: &mut [Successor],
     table: &mut [u32],

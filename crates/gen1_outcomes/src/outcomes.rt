@@ -1,8 +1,10 @@
 //! All battles that an update can lead to (docs/MECHANICS.md, "Link numbers").
-ghost use Rattle.std.specs.Prelude.{IfErr, IfOk, IsFalse, IsOkUnless, IsTrue, OnOk, length, replicate, ◌*◌, ◌+◌, ◌^◌, ◌<◌, ◌≡◌, ◌≢◌, ◌≤◌, ◌⊎◌};
+ghost use Rattle.std.specs.Prelude.{IfErr, IfOk, IsFalse, false, IsOkUnless, IsTrue, OnOk, length, replicate, ◌*◌, ◌+◌, ◌^◌, ◌<◌, ◌≡◌, ◌≢◌, ◌≤◌, ◌⊎◌};
 ghost use Rattle.gen1_machine.specs.State.{State};
 ghost use Rattle.gen1_layout.specs.Within.{Stands};
 ghost use Rattle.gen1_engine.specs.Update.{AreOffered};
+ghost use Rattle.gen1_outcomes.specs.Beginning.{have_two_actions};
+ghost use Rattle.gen1_outcomes.specs.Complete.{IsExact, ListsEvery};
 ghost use Rattle.gen1_outcomes.specs.declared.fault.OutcomesFault.TheVariants.{Size};
 ghost use Rattle.gen1_outcomes.specs.Listing.{AreThose, EachFollows, HasSome, StillFollow, sum_of};
 ghost use Rattle.gen1_outcomes.specs.Merging.{AreDistinct, IsShort, LeavesOut, StayIndexed};
@@ -57,6 +59,8 @@ pub fn list_outcomes(
 ) -> Result<Outcomes, OutcomesFault>
     ensures follow { (s : State) → Stands battle.now s
         → IfOk result (λ o. EachFollows s pair.0 pair.1 options o.count successors.new) }
+    ensures every { (s : State) → Stands battle.now s → have_two_actions pair.0 pair.1 s.field ≡ false
+        → IsExact options → IfOk result (λ o. ListsEvery s pair.0 pair.1 o.count successors.new) }
     ensures sum { IfOk result (λ o. sum_of o.count successors.new + o.left_out ≡ o.whole) }
     ensures within { IfOk result (λ o. o.count ≤ length successors.new) }
     ensures all { options.least ≡ 0 → IfOk result (λ o. o.left_out ≡ 0) }
@@ -94,6 +98,11 @@ fn list_ways(
         → AreOffered s ways.now.one ways.now.two
         → IfOk result (λ o.
         EachFollows s ways.now.one ways.now.two ways.now.options o.count successors.new) }
+    ensures every { (s : State) → Stands ways.now.start s
+        → AreOffered s ways.now.one ways.now.two
+        → have_two_actions ways.now.one ways.now.two s.field ≡ false → IsExact ways.now.options
+        → IfOk result (λ o.
+        ListsEvery s ways.now.one ways.now.two o.count successors.new) }
     ensures sum { IfOk result (λ o. sum_of o.count successors.new + o.left_out ≡ o.whole) }
     ensures within { IfOk result (λ o. o.count ≤ length successors.new) }
     ensures all { ways.now.options.least ≡ 0 → IfOk result (λ o. o.left_out ≡ 0) }
@@ -127,6 +136,10 @@ fn add_all(
     ensures within { tally.new.count ≤ length successors.new }
     ensures follow { OnOk result (StillFollow ways.now tally.old.count successors.old
         tally.new.count successors.new) }
+    ensures every { OnOk result ((s : State) → Stands ways.now.start s
+        → AreOffered s ways.now.one ways.now.two
+        → have_two_actions ways.now.one ways.now.two s.field ≡ false → IsExact ways.now.options
+        → ListsEvery s ways.now.one ways.now.two tally.new.count successors.new) }
     ensures left_out { OnOk result (LeavesOut tally.old tally.new) }
     ensures probable { OnOk result (StayProbable tally.old successors.old tally.new
         successors.new) }
@@ -269,6 +282,10 @@ fn finish(
     ensures within { tally.new.count ≤ length successors.new }
     ensures follow { OnOk result (StillFollow ways.now tally.old.count successors.old
         tally.new.count successors.new) }
+    ensures every { OnOk result (middle.now.draws ≡ 0 → IsExact ways.now.options
+        → tally.old.least ≡ 0 → (s : State) → Stands ways.now.start s
+        → AreOffered s ways.now.one ways.now.two
+        → ListsEvery s ways.now.one ways.now.two tally.new.count successors.new) }
     ensures left_out { OnOk result (LeavesOut tally.old tally.new) }
     ensures probable { OnOk result (StayProbable tally.old successors.old tally.new
         successors.new) }

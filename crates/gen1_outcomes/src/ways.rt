@@ -2,7 +2,7 @@
 ghost use Rattle.std.specs.Prelude.{IfErr, IfNone, IfOk, IfSome, IsOk, IsOkUnless, Some, [], false, ◌≡◌};
 ghost use Rattle.gen1_machine.specs.State.{State};
 ghost use Rattle.gen1_layout.specs.Within.{Stands};
-ghost use Rattle.gen1_layout.specs.Words.{HasRoom, Reads};
+ghost use Rattle.gen1_layout.specs.Words.{HasRoom, Reads, ReadsPacked};
 ghost use Rattle.gen1_engine.specs.Update.{AreOffered, Tests};
 ghost use Rattle.gen1_outcomes.specs.Beginning.{have_two_actions};
 ghost use Rattle.gen1_outcomes.specs.declared.fault.OutcomesFault.TheVariants.{Size};
@@ -203,6 +203,7 @@ impl Ways {
 
     /// Whether both sides use a move, so that the update has two actions.
     pub(crate) fn has_two_actions(&self) -> bool
+        ensures packs { ReadsPacked self.now.start result (have_two_actions self.now.one self.now.two) }
         ensures stands { Reads self.now.start result (have_two_actions self.now.one self.now.two) }
     {
         have_two_actions(&self.start, &self.one, &self.two)

@@ -1,5 +1,5 @@
 use Rattle.std.proofs.Common.{arith, refl, ◌∙◌}
-use Rattle.gen1_outcomes.proofs.Lists.{on_ok_those}
+use Rattle.gen1_outcomes.proofs.Lists.{on_ok_put, on_ok_stay, on_ok_stay_both, on_ok_those}
 use Rattle.gen1_outcomes.proofs.Shares.{on_ok_first, on_ok_leaves, on_ok_more, takes_or}
 use Rattle.gen1_outcomes.proofs.Table.{on_ok_indexed, on_ok_kept, on_ok_same}
 use Rattle.gen1_outcomes.proofs.merging.add.Goals as goal
@@ -47,3 +47,16 @@ pub returns-in-Free-clause-takes : goal.returns-in-Free-clause-takes
 returns-in-Free-clause-takes c =
     takes_or c.args.tally.now c.scaled_weight.new.tally c.append.new.tally c.args.table.now c.append.new.table c.in-Free.slot c.append.result c.in_ok-weight.ensures.count
     c.in-Free.ensures.place.0 c.in-Free.ensures.place.1 c.append.ensures.counts c.append.ensures.table c.append.ensures.kept
+
+pub returns-then-is_below-clause-first : goal.returns-then-is_below-clause-first
+returns-then-is_below-clause-first c = on_ok_stay c.args.tally.now.count c.args.successors.now c.leave_out.new.successors c.leave_out.result c.leave_out.ensures.battles
+
+pub returns-in-Taken-clause-first : goal.returns-in-Taken-clause-first
+returns-in-Taken-clause-first c =
+    on_ok_stay_both c.args.tally.now.count c.args.successors.now c.scaled_weight.new.successors c.add_weight.new.successors c.add_weight.result
+    c.in_ok-weight.ensures.battles c.add_weight.ensures.battles
+
+pub returns-in-Free-clause-first : goal.returns-in-Free-clause-first
+returns-in-Free-clause-first c =
+    on_ok_put c.args.tally.now.count c.scaled_weight.new.tally.count c.args.successors.now c.scaled_weight.new.successors c.append.new.successors c.new.result
+    c.append.result c.in_ok-weight.ensures.battles c.in_ok-weight.ensures.count c.append.ensures.list

@@ -1,5 +1,6 @@
 use Rattle.std.proofs.Common.{ap, arith, refl, ◌∙◌}
 use Rattle.gen1_outcomes.specs.declared.options.OutcomeOptions.{OutcomeOptions}
+use Rattle.gen1_outcomes.proofs.Complete.{finished_every}
 use Rattle.gen1_outcomes.proofs.Lists.{finished_follows}
 use Rattle.gen1_outcomes.proofs.Shares.{finished_all, finished_left, finished_probable, none_probable}
 use Rattle.gen1_outcomes.proofs.Table.{finished_once, none_indexed}
@@ -30,3 +31,8 @@ pub returns-clause-once : goal.returns-clause-once
 returns-clause-once c =
     finished_once c.add_all.new.tally.count c.add_all.new.successors c.add_all.new.table c.finished.result
     (c.in_ok-add_all.ensures.indexed (none_indexed c.args.table.now 0 c.args.successors.now refl)) c.finished.ensures.count
+
+pub returns-clause-every : goal.returns-clause-every
+returns-clause-every c s h o one exact =
+    finished_every s c.args.ways.now.one c.args.ways.now.two c.add_all.new.tally.count c.add_all.new.successors c.finished.result
+    (c.in_ok-add_all.ensures.every s h o one exact) c.finished.ensures.count
