@@ -1502,6 +1502,8 @@ typedef struct gen1_seen {
     gen1_seen_move moves[5]; /* in the order in which they were first seen */
     uint8_t asleep_by;       /* GEN1_ASLEEP_BY_MOVE or GEN1_ASLEEP_BY_REST; 0 if it is awake, or 3 from its Rest on until it
                                 falls asleep or either side uses another move */
+    uint8_t slept;           /* how many turns it has slept, 0 to 6; it wakes in the turn after these, or after 1 by Rest */
+    uint8_t unused;          /* 0 */
 } gen1_seen;
 
 /* What put a member to sleep. */
@@ -1510,7 +1512,7 @@ enum {
     GEN1_ASLEEP_BY_REST      /* its own Rest */
 };
 
-/* The conditions of the active member that the log has announced and not ended: 1, else 0. */
+/* The conditions of the active member that the log has announced and not ended: 1, else 0; and the counter of one. */
 typedef struct gen1_announced {
     uint8_t substitute;   /* Substitute */
     uint8_t confused;     /* confusion */
@@ -1520,6 +1522,7 @@ typedef struct gen1_announced {
     uint8_t reflect;      /* Reflect */
     uint8_t seeded;       /* Leech Seed */
     uint8_t toxic;        /* its poison is that of Toxic */
+    uint8_t toxic_count;  /* the counter of that poison, 0 to 64; its next damage is multiplied by one more */
     uint8_t disabled;     /* Disable, of one of its moves */
     uint8_t rage;         /* Rage */
     uint8_t bide;         /* Bide */
@@ -1537,6 +1540,7 @@ typedef struct gen1_public_side {
     uint8_t second_type;      /* 0 to 14; the first again for a member of one type */
     uint8_t last_move;        /* the move that it used or prepared last, 1 to 165; 0 if none since it came out */
     uint8_t invulnerable;     /* 1 if Fly or Dig has taken it out of reach, which may outlast the move; else 0 */
+    uint8_t unused;           /* 0 */
 } gen1_public_side;
 
 /* What the events of a battle make public. */
@@ -1594,7 +1598,7 @@ typedef struct gen1_player {
     uint8_t unused;     /* 0 */
 } gen1_player;
 
-#define GEN1_PLAYER_SIZE 456 /* the size of a gen1_player, for other languages; its alignment is 4 */
+#define GEN1_PLAYER_SIZE 484 /* the size of a gen1_player, for other languages; its alignment is 4 */
 
 /*
  * How HP of the foe is reported (docs/MECHANICS.md, "What a side is told"). Where one of these is an argument, any other number is the

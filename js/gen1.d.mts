@@ -362,6 +362,8 @@ export interface SeenMember {
   status: Status;
   /** What put it to sleep: a move of the foe, or its own Rest. Null while it is awake. */
   asleepBy: "move" | "rest" | null;
+  /** How many turns it has slept, 0 to 6; it wakes in the turn after these, or after one of them by its own Rest. */
+  slept: number;
   /** In 48ths or hundredths if the teller hides exact HP. */
   hp: number;
   maxHp: number;
@@ -385,6 +387,8 @@ export interface SeenActive {
   lastMove: MoveName | null;
   /** Those that were announced and have not ended. */
   announced: Announced[];
+  /** The counter of its bad poison, 0 to 64; 0 without it. The next damage by poison, a burn or Leech Seed is multiplied by one more. */
+  toxicCount: number;
 }
 
 /** The information about a side that the log has made public. */

@@ -7,11 +7,13 @@ import {CONDITIONS} from "./views.mjs";
 export const PLAYER_SIZE = CODES.PLAYER_SIZE;
 export const TELLER_SIZE = layoutOf("gen1_teller", false).size;
 
-// Fields without information, and those of the player's own side that are also public.
+// Fields that are no columns: those without information, newer ones, and those of the player's own side that are also public.
 const LEFT_OUT = {
   gen1_own_side: ["turn", "outcome"],
   gen1_own_member: ["unused"],
-  gen1_seen: ["asleepBy"]
+  gen1_seen: ["asleepBy", "slept", "unused"],
+  gen1_announced: ["toxicCount"],
+  gen1_public_side: ["unused"]
 };
 const PLAYER = offsetsOf("gen1_player");
 const PUBLIC = offsetsOf("gen1_public");

@@ -281,13 +281,14 @@ export function threeChancesOf({thrice, thriceOf, ...two}) {
   return {...chancesOf(two), chanceThrice: whole(thrice) / whole(thriceOf)};
 }
 
-function seenMember({species, level, status, hp, max, moves, asleepBy}) {
+function seenMember({species, level, status, hp, max, moves, asleepBy, slept}) {
   const used = moves.filter(({id}) => id).map(({id, uses}) => ({name: MOVES[id - 1], uses}));
   return {
     species: SPECIES[species - 1],
     level,
     status: STATUSES[status],
     asleepBy: ASLEEP_BY[asleepBy] ?? null,
+    slept,
     hp,
     maxHp: max,
     moves: used
@@ -298,12 +299,14 @@ function seenMember({species, level, status, hp, max, moves, asleepBy}) {
 const wordsOf = (key) => key.replace(/[A-Z]/g, (letter) => ` ${letter.toLowerCase()}`);
 
 function publicSide({members, stages, place, firstType, secondType, lastMove, announced, invulnerable}) {
+  const {toxicCount, ...flags} = announced;
   const active = {
     place,
     types: [TYPES[firstType], TYPES[secondType]],
     stages: stagesOf(stages),
     lastMove: MOVES[lastMove - 1] ?? null,
-    announced: Object.entries({...announced, invulnerable}).filter(([, flag]) => flag).map(([key]) => wordsOf(key)),
+    announced: Object.entries({...flags, invulnerable}).filter(([, flag]) => flag).map(([key]) => wordsOf(key)),
+    toxicCount
   };
   return {members: members.filter((it) => it.species).map(seenMember), active: place ? active : null};
 }

@@ -263,6 +263,7 @@ const OF_SEEN = {
   level: true,
   status: true,
   asleepBy: true,
+  slept: true,
   hp: true,
   maxHp: true,
   moves: true
@@ -273,7 +274,8 @@ const OF_SEEN_ACTIVE = {
   types: true,
   stages: true,
   lastMove: true,
-  announced: true
+  announced: true,
+  toxicCount: true
 };
 /** @type {Record<Named<import("../gen1.mjs").ActionOdds>, true>} */
 const OF_ACTION_ODDS = {

@@ -223,7 +223,8 @@ function played(gen1, terms, ...more) {
 function players(gen1, check) {
   check("what a player knows of the foe", () => {
     const {turn, outcome, foes, foe} = played(gen1, {pixels: false}).view;
-    const starmie = {species: "Starmie", level: 100, status: "none", asleepBy: null, hp: 323, maxHp: 323, moves: []};
+    const starmie =
+        {species: "Starmie", level: 100, status: "none", asleepBy: null, slept: 0, hp: 323, maxHp: 323, moves: []};
     const gengar = {...starmie, species: "Gengar", hp: 223, moves: [{name: "Focus Energy", uses: 1}]};
     equal([turn, outcome, foes, foe.members], [3, "ongoing", 3, [starmie, gengar]]);
     const active = {
@@ -231,7 +232,8 @@ function players(gen1, check) {
       types: ["Ghost", "Poison"],
       stages: [0, 0, 0, 0, 0, 0],
       lastMove: "Focus Energy",
-      announced: ["focus energy"]
+      announced: ["focus energy"],
+      toxicCount: 0
     };
     equal(foe.active, active);
     // As the bar 323 is 48, and 223 is 12 * 223 / 80 = 33. In hundredths 223 is 100 * 223 / 323 = 69.04, rounded up.
@@ -359,6 +361,11 @@ function guesses(gen1, check) {
     const {conditions, currentMove, keptAccuracy} =
         Battle.fromPlayer(told, {team: gen1.team([raging]), seed: SEED}).state.two.active;
     equal([conditions.includes("rage"), currentMove, keptAccuracy], [true, 2, 255]);
+    // Toxic, then damage by its poison and by Leech Seed.
+    told.feed(Uint8Array.of(
+        3, 1, 128, 92, 2, 65, 13, 2, 65, 2, 5, 2, 65, 13, 0, 57, 1, 2, 1, 18, 2, 65, 4, 5, 2, 65, 1, 0, 57, 1, 2, 3));
+    const {badPoison} = Battle.fromPlayer(told, {team: gen1.team([raging]), seed: SEED}).state.two.active;
+    equal([told.view.foe.active.toxicCount, badPoison], [2, 2]);
   });
 }
 

@@ -7,6 +7,7 @@ from collections import Counter
 from itertools import chain
 
 from definitions.machine import events_of
+from definitions.words import unwrapped
 
 SPECS = "Rattle.gen1_player.specs.Public"
 TELLING = "Rattle.gen1_player.specs.Telling"
@@ -104,9 +105,13 @@ class Players:
                 by = getattr(public, name).members[place - 1].asleep_by
                 if member.status[0] != "Status.Asleep":
                     yield f"side {name}, place {place}, awake", by in (0, 3), True
+                    yield f"side {name}, place {place}, turns awake", getattr(public, name).members[place - 1].slept, 0
                     continue
                 yield f"side {name}, place {place}, asleep by", by, sleepers.by[name, place]
                 yield f"side {name}, place {place}, mark", by == 1 and rules % 2 == 1, member.status[2]
+                # A sleep by Rest has a count of 2, and one by a move of the foe 1 to 7.
+                whole = getattr(public, name).members[place - 1].slept + member.status[1]
+                yield f"side {name}, place {place}, turns", whole == 2 if by == 2 else whole <= 7, True
 
     def parts(self, field, public):
         """Each part of what is public, with the state's."""
@@ -139,6 +144,11 @@ class Players:
             # No event says whether a member exploded, which ends Leech Seed.
             if name and (name != "seeded" or party.members[active.place - 1].hp):
                 yield f"{where}, {name}", getattr(side if name == "invulnerable" else side.announced, name), int(bit)
+        # Leech Seed raises the counter without an event once poison took the last HP.
+        if party.members[active.place - 1].hp:
+            yield f"{where}, counter of bad poison", side.announced.toxic_count, unwrapped(
+                active.conditions.bad_poison, 0
+            )
 
 
 class Sleepers:

@@ -1,7 +1,8 @@
 -- A battle that fits what a player knows after a run agrees with it.
+use Rattle.gen1_machine.specs.LogBytes.{kind_or_0}
 use Rattle.gen1_player.proofs.Sleeping.{sleepers_agree}
 use Rattle.gen1_player.specs.Player.{known_at}
-use Rattle.std.proofs.Common.{Bool, List, ap, arith, cond, false, inl, inr, is_some, length, refl, slice_index_or, subst, sym, true, ℕ, ◌+◌, ◌-◌, ◌<◌, ◌==◌, ◌∙◌, ◌≡◌, ◌≢◌, ◌≤◌, ◌⊎◌, suc, zero}
+use Rattle.std.proofs.Common.{Bool, List, Option, Some, ap, arith, cond, false, inl, inr, is_some, length, refl, slice_index_or, subst, sym, true, unwrap_or, ℕ, ◌+◌, ◌-◌, ◌<◌, ◌==◌, ◌∙◌, ◌≡◌, ◌≢◌, ◌≤◌, ◌⊎◌, suc, zero}
 use Rattle.std.specs.Prelude.{None, nat_lt, if◌then◌else◌}
 use Rattle.std.proofs.lemmas.Bool.{false≢true}
 use Rattle.std.proofs.lemmas.Bool.Decides.{eqb_tells, nat_tests}
@@ -17,9 +18,9 @@ use Rattle.gen1_machine.specs.Layout.{outcome_byte}
 use Rattle.gen1_machine.specs.Numbers.{side_number}
 use Rattle.gen1_machine.specs.Rules.{bit_of, Rules}
 use Rattle.gen1_machine.specs.Sides.{other}
-use Rattle.gen1_machine.specs.State.{active_in, first_state, member_at, member_in, party, underway_in, Active, Field, Party, State}
+use Rattle.gen1_machine.specs.State.{active_in, conditions_in, first_state, member_at, member_in, party, underway_in, Active, Field, Party, State}
 use Rattle.gen1_machine.specs.Step.{run, Ran}
-use Rattle.gen1_machine.specs.Valid.{IsMembersUnder, IsMemberUnder, IsParty, IsStarted, IsState, IsUnstarted}
+use Rattle.gen1_machine.specs.Valid.{IsMembersUnder, IsMemberUnder, IsStatus, IsParty, IsStarted, IsState, IsUnstarted}
 use Rattle.gen1_machine.specs.View.{shows, side_shows, Shown}
 use Rattle.gen1_machine.proofs.FirstStates.{first_states_are_valid}
 use Rattle.gen1_machine.proofs.ValidStates.{states_stay_valid}
@@ -43,16 +44,17 @@ use Rattle.gen1_player.proofs.Lenses.{is-some, is-zero}
 use Rattle.gen1_player.proofs.Members.{all-tellable, members_agree}
 use Rattle.gen1_player.proofs.Placing.{agrees}
 use Rattle.gen1_player.proofs.ToldPublic.{holds, met, FoeKept, Known}
+use Rattle.gen1_states.specs.Faults.{on as on_if}
 use Rattle.gen1_states.specs.Plain.{no_member}
 use Rattle.gen1_states.specs.declared.plain.MemberState.{MemberState}
 use Rattle.gen1_guesses.specs.Forks.{AgreesWithFork, ForksAgree, IsFork, IsGuess, IsToldAs, MayBeTold, MayHaveHp, foe_part, own_part}
 use Rattle.gen1_guesses.specs.Active.{is_on}
 use Rattle.gen1_guesses.specs.Members.{fresh_members, hp_of, member_at as place_in, seen_in}
 use Rattle.gen1_guesses.specs.declared.guess.Guess.{Guess}
-use Rattle.gen1_guesses.proofs.OwnForked.{appeared-alike, does-alike, shows_at, told-alike, view-alike, Alike, own_alike, own_plain, same_shown, slot_of_own, stats_of_own, Shows, shows as shows_own, own_sleeps}
-use Rattle.gen1_guesses.proofs.FoeForked.{foe_appeared, foe_does, foe_place, foe_told, foe_view, traps_on, and_same, exact, flag_of, guess_fits, on_is, told_there, Fits, Foe, IsFlag, foe_sleeps}
+use Rattle.gen1_guesses.proofs.OwnForked.{short-of, IsShort, appeared-alike, does-alike, lives-alike, own_poison, shows_at, told-alike, view-alike, Alike, own_alike, own_plain, same_shown, slot_of_own, stats_of_own, Shows, shows as shows_own, own_sleeps}
+use Rattle.gen1_guesses.proofs.FoeForked.{counted_if, foe_appeared, foe_does, foe_place, foe_told, foe_view, traps_on, and_same, exact, flag_of, guess_fits, on_is, told_there, Fits, Foe, IsFlag, foe_sleeps}
 use Rattle.gen1_guesses.proofs.ForkedStates.{fits, has_sides, HasSides, below_or, holds_side, party_valid, started, Holds}
-use Rattle.gen1_guesses.proofs.KnownFoes.{current_known, explained, foe_of_run, foe_plain, as_told, is_teller, numbered, out_told, teller_of, IsNumbered, forks_tell_hp, told_causes}
+use Rattle.gen1_guesses.proofs.KnownFoes.{current_known, explained, foe_of_run, foe_plain, as_told, is_teller, numbered, out_told, teller_of, IsNumbered, forks_tell_hp, told_causes, told_short}
 
 -- One side of what holds of both
 
@@ -157,6 +159,13 @@ member_ok rules t i v z = by (below_or i (length t.members))
     by (inl inside) = let m : IsMemberUnder rules (slice_index_or t.members i nobody) = All-get_or (IsMemberUnder rules) t.members i nobody inside v.each in m.numbers
     by (inr past) = absurd (z (ap (λ (m : Member). m.species) (get_or_past t.members i nobody past)))
 
+status_ok : (rules : Rules) (t : Party) (i : ℕ) → IsMembersUnder rules t.members → (slice_index_or t.members i nobody).species ≢ 0 → IsStatus rules (slice_index_or t.members i nobody).status
+status_ok rules t i v z = by (below_or i (length t.members))
+  where
+    by : (i < length t.members) ⊎ (length t.members ≤ i) → IsStatus rules (slice_index_or t.members i nobody).status
+    by (inl inside) = let m : IsMemberUnder rules (slice_index_or t.members i nobody) = All-get_or (IsMemberUnder rules) t.members i nobody inside v.each in m.status
+    by (inr past) = absurd (z (ap (λ (m : Member). m.species) (get_or_past t.members i nobody past)))
+
 -- HP of the foe
 
 module _ (clause : Bool) (x : PublicSide) (held : Bool) (team : List Member) (t : Party) (rules : Rules) (p : Player)
@@ -213,6 +222,18 @@ told_none t w u k a z dead =
     ap (λ (s : Seen). s.hp) o.2 ∙ ap (λ (n : ℕ). (told_in (form_of t.pixels) (record { hp = n; max = (seen_at w.place w).max; kind = None })).hp) hp
     ∙ none_told (form_of t.pixels) (seen_at w.place w).max
 
+none_left : (o : Option ℕ) → is_some o ≡ false → unwrap_or o 0 ≡ 0
+none_left None e = refl
+none_left (Some n) e = absurd (false≢true (sym e))
+
+-- Without bad poison its counter is 0.
+none_counted : (w : PublicSide) (u : Party) → SideDoes w u → is_living (member_at u.active.place u) ≡ true → is_on w.announced.toxic ≡ false → w.announced.toxic_count ≡ 0
+none_counted w u d living off = d.toxic_count living ∙ none_left u.active.conditions.bad_poison (sym (on_is _ _ d.toxic) ∙ off)
+
+count_in : (s : Side) (q : Public) (b : Field) → SideDoes (public_side s q) (party s b) → is_living (member_at (party s b).active.place (party s b)) ≡ true
+    → (public_side s q).announced.toxic_count ≡ unwrap_or (conditions_in s b).bad_poison 0
+count_in s q b d living = d.toxic_count living
+
 -- All of it
 
 module _ (s : Side) (form : ℕ) (few : form ≤ 2) (team : List Member) (t : Teller) (q : Public) (b : State) (valid : IsState b)
@@ -241,6 +262,11 @@ module _ (s : Side) (form : ℕ) (few : form ≤ 2) (team : List Member) (t : Te
 
   party_b : (u : Side) → IsParty b.terms.rules (party u b.field)
   party_b u = party_valid u b.terms b.field starts_b.field
+
+  short_b : (u : Side) (place : ℕ) → (seen_at place (public_side u q)).species ≢ 0 → IsShort (seen_at place (public_side u q))
+  short_b u place z = short-of truth b.terms.rules (seen_at place (public_side u q)) (member_at place (party u b.field))
+      (status_ok b.terms.rules (party u b.field) (place - 1) (party_b u).members (λ e. z (((appeared_of u q b.field members).each place z).species ∙ e)))
+      (((view_of u q b.field view).members place z).1 ∙ ap (λ (m : Shown). kind_or_0 m.kind) (shows_at (party u b.field) place)) (sleeps u place z)
 
   own_shows : Shows (plain_side (own_side s b.field)) s b.field
   own_shows = shows_own s b.field (is-some (active_in s b.field).place place_b)
@@ -299,7 +325,7 @@ module _ (s : Side) (form : ℕ) (few : form ≤ 2) (team : List Member) (t : Te
 
   foe_x : Foe (public_side (other s) p.public)
   foe_x = subst Foe (sym x_is) (foe_of_run t (public_side (other s) q) (party (other s) b.field) b.terms.rules (party_b (other s)) (view_of (other s) q b.field view)
-      (told_of (other s) q b.field told) foe_q (told_causes t (public_side (other s) q) known.foe (party (other s) b.field) (sleeps (other s))) (λ k. subst (λ (y : PublicSide). length (seen_in k y.members).moves ≡ 5) x_is (slots k))
+      (told_of (other s) q b.field told) foe_q (told_causes t (public_side (other s) q) known.foe (party (other s) b.field) (sleeps (other s))) (told_short t (public_side (other s) q) known.foe (short_b (other s))) (λ k. subst (λ (y : PublicSide). length (seen_in k y.members).moves ≡ 5) x_is (slots k))
       (numbered t (public_side (other s) q) known.foe))
 
   hp_x : (i : ℕ) → i < 6 → (seen_in i (public_side (other s) p.public).members).species ≢ 0 → let m : Member = slice_index_or (party (other s) f.field).members i nobody in
@@ -317,15 +343,15 @@ module _ (s : Side) (form : ℕ) (few : form ≤ 2) (team : List Member) (t : Te
       ap bit_of (traps_on g.rules.sleep_clause (public_side (other s) p.public) (is_on p.own.held) (fresh_members g.team) (party (other s) f.field) f.terms.rules p foe_holds (party_f (other s)) foe_x fitting
       ∙ and_same _ _ (λ z. explained traps (party (other s) b.field) _ last (current_known b.terms.rules (party (other s) b.field) (party_b (other s))) (tied (sym on ∙ z))) ∙ on)
 
-  -- Leech Seed
+  -- Leech Seed and bad poison
 
-  seeded_x : is_living (member_at (party (other s) f.field).active.place (party (other s) f.field)) ≡ true → IsFlag (public_side (other s) p.public).announced.seeded
-  seeded_x living = by (eqb_tells (member_at (party (other s) b.field).active.place (party (other s) b.field)).hp 0)
+  foe_lives : is_living (member_at (party (other s) f.field).active.place (party (other s) f.field)) ≡ true → is_living (member_at (party (other s) b.field).active.place (party (other s) b.field)) ≡ true
+  foe_lives living = by (eqb_tells (member_at (party (other s) b.field).active.place (party (other s) b.field)).hp 0)
     where
       by : ((((member_at (party (other s) b.field).active.place (party (other s) b.field)).hp == 0) ≡ true) × ((member_at (party (other s) b.field).active.place (party (other s) b.field)).hp ≡ 0))
           ⊎ ((((member_at (party (other s) b.field).active.place (party (other s) b.field)).hp == 0) ≡ false) × ((member_at (party (other s) b.field).active.place (party (other s) b.field)).hp ≢ 0))
-          → IsFlag (public_side (other s) p.public).announced.seeded
-      by (inr e) = subst (λ (z : PublicSide). IsFlag z.announced.seeded) (sym x_is) (flag_of _ _ ((told_of (other s) q b.field told).seeded (lives_if _ e.1)))
+          → is_living (member_at (party (other s) b.field).active.place (party (other s) b.field)) ≡ true
+      by (inr e) = lives_if _ e.1
       by (inl e) =
           let out : (foe_as_told t (public_side (other s) q)).place ≢ 0 = subst (λ (z : PublicSide). z.place ≢ 0) x_is fitting.foe_out in
           let none = told_none t (public_side (other s) q) (party (other s) b.field) known.foe (view_of (other s) q b.field view) out e.1 in
@@ -339,6 +365,22 @@ module _ (s : Side) (form : ℕ) (few : form ≤ 2) (team : List Member) (t : Te
           λ z. o.3 (ap (λ (i : ℕ). (seen_in i (public_side (other s) p.public).members).species) (sym back) ∙ z) in
           let dead = fallen_if_told g.rules.sleep_clause (public_side (other s) p.public) (is_on p.own.held) g.team (party (other s) f.field) f.terms.rules p foe_holds (party_f (other s)) form may fitting ((public_side (other s) p.public).place - 1) low named none_x in
           absurd (not_living _ (ap (λ (n : ℕ). (member_at n (party (other s) f.field)).hp) (foe_place g.rules.sleep_clause (public_side (other s) p.public) (is_on p.own.held) (fresh_members g.team) (party (other s) f.field) f.terms.rules p foe_holds (party_f (other s)) foe_x fitting) ∙ dead) living)
+
+  seeded_x : is_living (member_at (party (other s) f.field).active.place (party (other s) f.field)) ≡ true → IsFlag (public_side (other s) p.public).announced.seeded
+  seeded_x living = subst (λ (z : PublicSide). IsFlag z.announced.seeded) (sym x_is) (flag_of _ _ ((told_of (other s) q b.field told).seeded (foe_lives living)))
+
+  count_x : is_living (member_at (party (other s) f.field).active.place (party (other s) f.field)) ≡ true → is_on (public_side (other s) p.public).announced.toxic ≡ false
+      → (public_side (other s) p.public).announced.toxic_count ≡ 0
+  count_x living = subst (λ (z : PublicSide). is_on z.announced.toxic ≡ false → z.announced.toxic_count ≡ 0) (sym x_is)
+      (none_counted (public_side (other s) q) (party (other s) b.field) foe_q (foe_lives living))
+
+  count_own : is_living (member_at (party s f.field).active.place (party s f.field)) ≡ true → (public_side s q).announced.toxic_count ≡ unwrap_or (party s f.field).active.conditions.bad_poison 0
+  count_own living =
+      let known : (public_side s p.public).announced.toxic_count ≡ (public_side s q).announced.toxic_count = ap (λ (y : PublicSide). y.announced.toxic_count) own_is in
+      let o : Option ℕ = (conditions_in s b.field).bad_poison in
+      let count : (public_side s q).announced.toxic_count ≡ unwrap_or o 0 = count_in s q b.field own_q (lives-alike _ _ alike living) in
+      counted_if (is_some o) (public_side s q).announced.toxic_count (λ off. count ∙ none_left o off)
+      ∙ ap (λ (n : ℕ). on_if (is_some o) n) (sym known) ∙ sym (own_poison g.rules.sleep_clause p.own (public_side s p.public) s (party s f.field) b.field shows_p own_holds)
 
   pub whole : AgreesWithFork s form team p g.rules.sleep_clause f.field
   whole = record {
@@ -354,13 +396,13 @@ module _ (s : Side) (form : ℕ) (few : form ≤ 2) (team : List Member) (t : Te
     view = whole_view s q _ f.field (view-alike (public_side s q) _ _ alike (view_of s q b.field view)) (foe_view g.rules.sleep_clause (public_side (other s) p.public) (is_on p.own.held) (fresh_members g.team) (party (other s) f.field) f.terms.rules p foe_holds (party_f (other s)) foe_x fitting)
         (turn_of view ∙ sym (sides.turn ∙ turn_p)) (outcome_of view ∙ sym (ap (λ (o : OwnSide). o.outcome) shown) ∙ fitting.going ∙ sym sides.outcome);
     conditions = whole_told s q _ f.field (told-alike (public_side s q) _ _ alike (told_of s q b.field told)) (foe_told g.rules.sleep_clause (public_side (other s) p.public) (is_on p.own.held) (fresh_members g.team) (party (other s) f.field) f.terms.rules p foe_holds (party_f (other s)) foe_x fitting seeded_x);
-    actives = whole_does s q _ f.field (does-alike (public_side s q) _ _ alike own_q) (foe_does g.rules.sleep_clause (public_side (other s) p.public) (is_on p.own.held) (fresh_members g.team) (party (other s) f.field) f.terms.rules p foe_holds (party_f (other s)) foe_x fitting) does.may_hit_itself;
+    actives = whole_does s q _ f.field (does-alike (public_side s q) _ _ alike count_own own_q) (foe_does g.rules.sleep_clause (public_side (other s) p.public) (is_on p.own.held) (fresh_members g.team) (party (other s) f.field) f.terms.rules p foe_holds (party_f (other s)) foe_x fitting count_x) does.may_hit_itself;
     own_members = subst (λ (z : PublicSide). SideHasAppeared z (party s f.field)) (sym (own_side_of s q _))
         own_has;
     foe_members = subst (λ (z : PublicSide). SideHasAppeared z (party (other s) f.field)) (sym (foe_side_of s q _))
         (foe_appeared g.rules.sleep_clause (public_side (other s) p.public) (is_on p.own.held) (fresh_members g.team) (party (other s) f.field) f.terms.rules p foe_holds (party_f (other s)) foe_x fitting);
     own_sleepers = subst (λ (z : PublicSide). SideSleeps g.rules.sleep_clause z (party s f.field)) (sym (own_side_of s q _))
-        (own_sleeps g.rules.sleep_clause truth p.own (public_side s p.public) (public_side s q) s f.field b.field shows_p own_holds (party_f s).members.size.1 own_seen (view_of s q b.field view) own_has (sleeps s));
+        (own_sleeps g.rules.sleep_clause truth p.own (public_side s p.public) (public_side s q) s f.field b.field shows_p own_holds (party_f s).members.size.1 own_seen (view_of s q b.field view) own_has (short_b s) (sleeps s));
     foe_sleepers = subst (λ (z : PublicSide). SideSleeps g.rules.sleep_clause z (party (other s) f.field)) (sym (foe_side_of s q _))
         (foe_sleeps g.rules.sleep_clause (public_side (other s) p.public) (is_on p.own.held) (fresh_members g.team) (party (other s) f.field) f.terms.rules p foe_holds (party_f (other s)) foe_x fitting);
   }

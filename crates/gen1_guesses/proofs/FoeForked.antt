@@ -1,5 +1,5 @@
 -- The foe's side in a battle that fits agrees with what the player knows of it.
-use Rattle.std.proofs.Common.{Bool, Err, List, Ok, [], ap, arith, false, get_or, inl, inr, is_some, length, not, refl, slice_index, slice_index_or, subst, suc, sym, true, zero, ℕ, ◌+◌, ◌-◌, ◌<◌, ◌&&◌, ◌==◌, ◌∙◌, ◌∷◌, ◌≡◌, ◌≢◌, ◌≤◌, ◌⊎◌, ◌||◌}
+use Rattle.std.proofs.Common.{Bool, Err, List, Ok, [], ap, arith, false, get_or, inl, inr, is_some, length, not, refl, slice_index, slice_index_or, subst, suc, sym, true, unwrap_or, zero, ℕ, ◌+◌, ◌-◌, ◌<◌, ◌&&◌, ◌==◌, ◌∙◌, ◌∷◌, ◌≡◌, ◌≢◌, ◌≤◌, ◌⊎◌, ◌||◌}
 use Rattle.std.specs.Prelude.{if◌then◌else◌, nat_le}
 use Rattle.std.proofs.lemmas.Bool.{false≢true}
 use Rattle.std.proofs.lemmas.Bool.Decides.{eqb_tells, nat_tests}
@@ -22,18 +22,18 @@ use Rattle.gen1_player.specs.declared.seen.Seen.{Seen}
 use Rattle.gen1_player.specs.declared.seen.SeenMove.{SeenMove}
 use Rattle.gen1_player.specs.Public.{new_uses, not_seen, not_used, seen_at, may_go_on}
 use Rattle.gen1_player.specs.True.{current_move_of, IsMoveOf, IsSeen, SideAgrees, SideDoes, SideHasAppeared, SideIsTold, IsAsleepBy, SideSleeps, HasCause}
-use Rattle.gen1_states.specs.Faults.{◌▸◌}
+use Rattle.gen1_states.specs.Faults.{on as on_if, ◌▸◌}
 use Rattle.gen1_states.specs.Plain.{no_member}
 use Rattle.gen1_states.specs.Reading.{member_state}
 use Rattle.gen1_states.specs.declared.plain.ActiveState.{ActiveState}
 use Rattle.gen1_states.specs.declared.plain.MemberState.{MemberState}
 use Rattle.gen1_guesses.specs.Active.{foe_bits, is_on, used_slot}
 use Rattle.gen1_guesses.specs.Forks.{foe_part}
-use Rattle.gen1_guesses.specs.Members.{member_at as place_in, members_of, seen_in, told, told_if_seen}
+use Rattle.gen1_guesses.specs.Members.{member_at as place_in, members_of, seen_in, sleep_of, told, told_if_seen}
 use Rattle.gen1_guesses.specs.Tests.{at_index, id_in, knows as knows_move, tested, tested_member, tested_members, tested_use, tested_uses, unless, Tested}
 use Rattle.gen1_guesses.specs.declared.fault.GuessFault.{GuessFault}
 use Rattle.gen1_guesses.specs.declared.fault.GuessFault.TheVariants as faults
-use Rattle.gen1_guesses.proofs.OwnForked.{bits_same, four, is-move, knows_used, shows_at, marked-by}
+use Rattle.gen1_guesses.proofs.OwnForked.{bit_back, bits_same, four, is-move, knows_used, shows_at, marked-by, turns-left, IsShort}
 use Rattle.gen1_guesses.proofs.ForkedStates.{below_or, current_is, few_moves, Holds}
 use Rattle.gen1_machine.specs.Action.{keeps_going}
 
@@ -88,6 +88,7 @@ pub record Foe (x : PublicSide) : Type 0 where
   pub light_screen : IsFlag x.announced.light_screen
   pub reflect : IsFlag x.announced.reflect
   pub toxic : IsFlag x.announced.toxic
+  pub unused : x.unused ≡ 0
   pub disabled : IsFlag x.announced.disabled
   pub rage : IsFlag x.announced.rage
   pub bide : IsFlag x.announced.bide
@@ -96,6 +97,7 @@ pub record Foe (x : PublicSide) : Type 0 where
   pub charges : is_on x.announced.charging ≡ true → charges (effect_of_number x.last_move) ≡ true
   pub rests : x.announced.recharging ≢ 0 → recharges (move_at x.last_move).effect ≡ true
   pub causes : (i : ℕ) → HasCause (seen_in i x.members)
+  pub short : (i : ℕ) → IsShort (seen_in i x.members)
   pub rages : is_on x.announced.rage ≡ true → rages (effect_of_number x.last_move) ≡ true
   pub slots : (k : ℕ) → length (seen_in k x.members).moves ≡ 5
   pub out : x.place ≢ 0 → (seen_at x.place x).species ≢ 0
@@ -179,7 +181,7 @@ module _ (clause : Bool) (x : PublicSide) (held : Bool) (fresh : List MemberStat
 
 -- What put a member to sleep doesn't depend on its HP.
 told_cause : (s : Seen) (hp most : ℕ) → HasCause s → HasCause (record s { hp = hp; max = most })
-told_cause s hp most h = record { asleep = h.asleep; awake = h.awake }
+told_cause s hp most h = record { asleep = h.asleep; awake = h.awake; rested = h.rested }
 
 -- What the tests of a guess say
 
@@ -333,6 +335,11 @@ same_default [] k d e h = absurd (omega (arith, h))
 same_default (x ∷ xs) zero d e h = refl
 same_default (x ∷ xs) (suc k) d e h = same_default xs k d e (omega (arith, h))
 
+-- A count that is 0 without its condition.
+pub counted_if : (b : Bool) (n : ℕ) → (b ≡ false → n ≡ 0) → n ≡ on_if b n
+counted_if true n h = refl
+counted_if false n h = h refl
+
 or_true : (a b : Bool) → b ≡ true → (a || b) ≡ true
 or_true true b e = refl
 or_true false b e = e
@@ -421,12 +428,18 @@ module _ (clause : Bool) (x : PublicSide) (held : Bool) (fresh : List MemberStat
   pub traps_on : is_some t.active.conditions.underway.trapping ≡ (held && traps (effect_of_number x.last_move))
   traps_on = on 2
 
-  pub foe_does : SideDoes (exact t x) t
-  foe_does = record {
+  poison_is : unwrap_or t.active.conditions.bad_poison 0 ≡ on_if (is_on x.announced.toxic) x.announced.toxic_count
+  unfolding foe_part
+  poison_is = ap (λ (a : ActiveState). a.bad_poison) h.active ∙ ap (λ (b : Bool). on_if b x.announced.toxic_count) (bit_back (foe_bits x held) 13)
+
+  pub foe_does : (is_living (member_at t.active.place t) ≡ true → is_on x.announced.toxic ≡ false → x.announced.toxic_count ≡ 0) → SideDoes (exact t x) t
+  foe_does none = record {
     bide = agree_flag _ _ k.bide (on 0 ∙ and_same _ _ k.bides);
     charging = agree_flag _ _ k.charging (on 4 ∙ and_same _ _ k.charges);
     toxic = agree_flag _ _ k.toxic (on 13);
+    toxic_count = λ z. counted_if (is_on x.announced.toxic) x.announced.toxic_count (none z) ∙ sym poison_is;
     invulnerable = λ z. on 5 ∙ reached x.invulnerable z;
+    unused = k.unused;
     last_move = sym foe_current;
     recharge = λ z. by_number recharges refl x.last_move (both _ _ (sym (on 10) ∙ z)).1;
     rests = k.rests;
@@ -486,6 +499,12 @@ module _ (clause : Bool) (x : PublicSide) (held : Bool) (fresh : List MemberStat
         cause = told_cause (seen_in (place - 1) x.members) _ _ (k.causes (place - 1));
         mark = marked-by clause (seen_in (place - 1) x.members).status (seen_in (place - 1) x.members).asleep_by (is_marked (member_at place t).status)
             (ap (λ (m : MemberState). m.marked) (told_there clause x held fresh t h (place - 1) e.0 e.1));
+        turns = (
+            let s : Seen = seen_in (place - 1) x.members in
+            let made = told_there clause x held fresh t h (place - 1) e.0 e.1 in
+            let status : (member_state (member_at place t)).status ≡ s.status = ap (λ (m : MemberState). m.status) made in
+            turns-left s (member_at place t) (ap (λ (m : MemberState). m.sleep) made ∙ ap (λ (i : ℕ). sleep_of i s) (sym status)) status (k.short (place - 1))
+            );
       })
 
   foe_last : IsMoveOf (member_at t.active.place t) x.last_move

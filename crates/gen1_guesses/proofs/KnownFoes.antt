@@ -24,6 +24,7 @@ use Rattle.gen1_player.proofs.Lenses.{is-some, is-zero, left, taken}
 use Rattle.gen1_player.proofs.Slots.{kept-slot}
 use Rattle.gen1_player.proofs.ToldPublic.{FoeKept}
 use Rattle.gen1_guesses.proofs.ForkedStates.{below_or, words}
+use Rattle.gen1_guesses.proofs.OwnForked.{IsShort}
 use Rattle.gen1_guesses.proofs.FoeForked.{exact, exact_in, exact_seen, effect_is, flag_of, on_is, Foe}
 use Rattle.std.proofs.lemmas.List.Elements.{All-get_or}
 use Rattle.gen1_tables.specs.declared.effect.Effect.{Effect}
@@ -390,16 +391,36 @@ module _ (t : Teller) (w : PublicSide) (k : FoeKept t.places w.place w.members) 
       p = get_or t.places i 0
 
       nobody_sleeps : seen_in i (foe_as_told t w).members ≡ not_seen → HasCause (seen_in i (foe_as_told t w).members)
-      nobody_sleeps e = subst HasCause (sym e) (record { asleep = λ h. absurd (omega (arith, h)); awake = λ h. (λ z. omega (arith, z), λ z. omega (arith, z)) })
+      nobody_sleeps e = subst HasCause (sym e) (record { asleep = λ h. absurd (omega (arith, h)); awake = λ h. (λ z. omega (arith, z), λ z. omega (arith, z)); rested = λ h. refl })
 
       known : (((p == 0) ≡ true) × (p ≡ 0)) ⊎ (((p == 0) ≡ false) × (p ≢ 0)) → i < 6 → HasCause (seen_in i (foe_as_told t w).members)
       known (inl e) low = nobody_sleeps (free i low e.1)
       known (inr e) low =
           let is : seen_in i (foe_as_told t w).members ≡ with_hp_told t (seen_at p w) = seen_told i low ∙ left (p == 0) not_seen (with_hp_told t (seen_at p w)) e.0 in
           let c = (sleeps p (k.appeared i e.1)).cause in
-          subst HasCause (sym is) (record { asleep = c.asleep; awake = c.awake })
+          subst HasCause (sym is) (record { asleep = c.asleep; awake = c.awake; rested = c.rested })
 
       by : (i < 6) ⊎ (6 ≤ i) → HasCause (seen_in i (foe_as_told t w).members)
+      by (inr past) = nobody_sleeps (get_or_past (foe_as_told t w).members i not_seen (let six = numbered.six in omega (arith, past, six)))
+      by (inl low) = known (eqb_tells p 0) low
+
+  -- and for how long it may go on
+  pub told_short : ((place : ℕ) → (seen_at place w).species ≢ 0 → IsShort (seen_at place w)) → (i : ℕ) → IsShort (seen_in i (foe_as_told t w).members)
+  told_short short i = by (below_or i 6)
+    where
+      p : ℕ
+      p = get_or t.places i 0
+
+      nobody_sleeps : seen_in i (foe_as_told t w).members ≡ not_seen → IsShort (seen_in i (foe_as_told t w).members)
+      nobody_sleeps e = subst IsShort (sym e) (λ h. absurd (omega (arith, h)))
+
+      known : (((p == 0) ≡ true) × (p ≡ 0)) ⊎ (((p == 0) ≡ false) × (p ≢ 0)) → i < 6 → IsShort (seen_in i (foe_as_told t w).members)
+      known (inl e) low = nobody_sleeps (free i low e.1)
+      known (inr e) low =
+          let is : seen_in i (foe_as_told t w).members ≡ with_hp_told t (seen_at p w) = seen_told i low ∙ left (p == 0) not_seen (with_hp_told t (seen_at p w)) e.0 in
+          subst IsShort (sym is) (λ h. short p (k.appeared i e.1) h)
+
+      by : (i < 6) ⊎ (6 ≤ i) → IsShort (seen_in i (foe_as_told t w).members)
       by (inr past) = nobody_sleeps (get_or_past (foe_as_told t w).members i not_seen (let six = numbered.six in omega (arith, past, six)))
       by (inl low) = known (eqb_tells p 0) low
 
@@ -542,9 +563,9 @@ pub explained : (test : Effect → Bool) (t : Party) (last : ℕ) → last ≡ c
 explained test t last e few h = ap (λ (n : ℕ). test (effect_of_number n)) e ∙ ap test (sym (effect_is (current_move_of t) few)) ∙ h
 
 pub foe_of_run : (t : Teller) (w : PublicSide) (u : Party) (rules : Rules) → IsParty rules u → SideAgrees w (side_shows u) → SideIsTold w u → SideDoes w u
-    → ((i : ℕ) → HasCause (seen_in i (foe_as_told t w).members))
+    → ((i : ℕ) → HasCause (seen_in i (foe_as_told t w).members)) → ((i : ℕ) → IsShort (seen_in i (foe_as_told t w).members))
     → ((k : ℕ) → length (seen_in k (foe_as_told t w).members).moves ≡ 5) → IsNumbered (foe_as_told t w) → Foe (foe_as_told t w)
-foe_of_run t w u rules v a b d causes slots n =
+foe_of_run t w u rules v a b d causes short slots n =
     let few = current_known rules u v in
     let ties = v.active.conditions.underway in
     record {
@@ -555,6 +576,7 @@ foe_of_run t w u rules v a b d causes slots n =
       light_screen = flag_of _ _ a.light_screen;
       reflect = flag_of _ _ a.reflect;
       toxic = flag_of _ _ d.toxic;
+      unused = d.unused;
       disabled = flag_of _ _ b.disabled;
       rage = flag_of _ _ b.rage;
       bide = flag_of _ _ d.bide;
@@ -563,6 +585,7 @@ foe_of_run t w u rules v a b d causes slots n =
       charges = λ z. explained charges u w.last_move d.last_move few (ties.charging_tied (sym (on_is _ _ d.charging) ∙ z));
       rests = d.rests;
       causes = causes;
+      short = short;
       rages = λ z. explained rages u w.last_move d.last_move few (ties.rage_tied (sym (on_is _ _ b.rage) ∙ z));
       slots = slots;
       out = λ z e. let o = n.out z in

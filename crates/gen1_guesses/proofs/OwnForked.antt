@@ -1,20 +1,24 @@
 -- The player's own side in a battle that fits: it is shown the same. What is public agrees with sides that look the same.
-use Rattle.std.proofs.Common.{Bool, List, [], ap, arith, false, get_or, inl, inr, is_some, length, map, refl, slice_index, slice_index_or, subst, suc, sym, true, zero, ℕ, ◌+◌, ◌-◌, ◌<◌, ◌==◌, ◌∙◌, ◌∷◌, ◌≡◌, ◌≢◌, ◌≤◌, ◌⊎◌, ◌||◌, cond, lit<, ◌&&◌}
+use Rattle.std.proofs.Common.{Bool, List, [], ap, arith, false, get_or, inl, inr, is_some, length, map, refl, slice_index, slice_index_or, subst, suc, sym, true, unwrap_or, zero, ℕ, ◌%◌, ◌*◌, ◌+◌, ◌-◌, ◌/◌, ◌<◌, ◌==◌, ◌∙◌, ◌∷◌, ◌≡◌, ◌≢◌, ◌≤◌, ◌⊎◌, ◌||◌, cond, lit<, ◌&&◌}
 use Rattle.std.proofs.Math.ListN.{get_or-map}
 use Rattle.std.specs.Prelude.{nat_lt, if◌then◌else◌}
+use Rattle.std.specs.Int.{bit_at}
 use Rattle.std.proofs.lemmas.Bool.{false≢true}
+use Rattle.std.proofs.lemmas.Nat.Bits.{bit_at-suc, bit_at-zero, bit_at_lowest}
 use Rattle.std.proofs.lemmas.Bool.Decides.{eqb_tells, nat_tests}
 use Rattle.gen1_tables.specs.Effects.{recharges}
 use Rattle.gen1_tables.specs.Moves.{move_row, move_rows, struggle}
 use Rattle.gen1_tables.specs.Types.{any, number_of}
 use Rattle.gen1_stats.specs.declared.known_move.KnownMove.{KnownMove}
-use Rattle.gen1_stats.specs.Members.{nobody, Member, is_marked}
+use Rattle.gen1_stats.specs.declared.status.Status.{Status}
+use Rattle.gen1_stats.specs.declared.status.Status.TheVariants.{Asleep, Burned, Frozen, Healthy, Paralysed, Poisoned}
+use Rattle.gen1_stats.specs.Members.{nobody, Member, is_living, is_marked}
 use Rattle.gen1_machine.specs.Conditions.{ActiveConditions}
 use Rattle.gen1_machine.specs.Moves.{move_at}
 use Rattle.gen1_machine.specs.Layout.{condition_bits, number_of_bits, disabled_slot, outcome_byte, request_byte, used_byte}
 use Rattle.gen1_machine.specs.LogBytes.{kind_or_0}
 use Rattle.gen1_machine.specs.Rules.{bit_of, Rules}
-use Rattle.gen1_machine.specs.State.{known_in, member_at, Party, active_in, conditions_in, member_in, party, request_of, underway_in, Active, Field, Stages, State}
+use Rattle.gen1_machine.specs.State.{known_in, member_at, Party, active_in, conditions_in, member_in, party, request_of, underway_in, Active, Field, Stages, State, kind_of}
 use Rattle.gen1_machine.specs.View.{shown, shown_at, side_shows, Shown}
 use Rattle.gen1_player.specs.declared.own.OwnMember.{OwnMember}
 use Rattle.gen1_player.specs.declared.public_side.PublicSide.{PublicSide}
@@ -27,7 +31,7 @@ use Rattle.gen1_tables.specs.declared.effect.Stat.TheVariants.{Attack, Defense, 
 use Rattle.gen1_machine.specs.declared.side.Side.{Side}
 use Rattle.gen1_machine.specs.CurrentStats.{now}
 use Rattle.gen1_machine.specs.Sides.{other}
-use Rattle.gen1_machine.specs.Valid.{IsMembersUnder, IsParty, IsState}
+use Rattle.gen1_machine.specs.Valid.{IsMembersUnder, IsParty, IsState, IsStatus}
 use Rattle.gen1_layout.specs.SentOut.{stats_of}
 use Rattle.gen1_layout.specs.Within.{blocks_of, Stands}
 use Rattle.gen1_layout.proofs.Counts.{number_small}
@@ -35,18 +39,19 @@ use Rattle.gen1_layout.proofs.WaysBack.{hp_fits_at, now_fits, stats_fit_at}
 use Rattle.gen1_player.specs.declared.own.OwnSide.{OwnSide}
 use Rattle.gen1_player.specs.Player.{not_shown_member}
 use Rattle.gen1_player.proofs.OwnSides.{as_many, counted, have_species, shown_at as own_shown_at}
+use Rattle.gen1_states.specs.Faults.{on}
 use Rattle.gen1_states.specs.Completed.{are_left, completed_side, computed_stats}
 use Rattle.gen1_states.specs.ActiveTests.{member_out}
 use Rattle.gen1_states.specs.Laws.{IsPlainMember, IsPlainSide}
 use Rattle.gen1_states.specs.Plain.{no_member}
-use Rattle.gen1_states.specs.Reading.{active_state as state_of_active, member_state, no_active, side_state}
+use Rattle.gen1_states.specs.Reading.{active_state as state_of_active, member_state, no_active, side_state, sleep_of as turns_of}
 use Rattle.gen1_states.specs.declared.plain.ActiveState.{ActiveState}
 use Rattle.gen1_states.specs.declared.plain.MemberState.{MemberState}
 use Rattle.gen1_states.specs.declared.plain.SideState.{SideState}
 use Rattle.gen1_states.proofs.Between.{not_zero, packs_of}
 use Rattle.gen1_guesses.specs.Active.{used_slot}
 use Rattle.gen1_guesses.specs.Forks.{own_part}
-use Rattle.gen1_guesses.specs.Members.{member_at as place_in, own_member as own_state, own_members, seen_in, mark_of}
+use Rattle.gen1_guesses.specs.Members.{member_at as place_in, own_member as own_state, own_members, seen_in, mark_of, sleep_of, turns_left}
 use Rattle.gen1_guesses.proofs.ForkedStates.{words, below_or, current_is, few_moves, past_six, Holds}
 
 -- Conditions with the same number
@@ -59,6 +64,21 @@ bits_same (true ∷ cs) (true ∷ bs) long e = ap (λ (l : List Bool). true ∷ 
 bits_same (false ∷ cs) (false ∷ bs) long e = ap (λ (l : List Bool). false ∷ l) (bits_same cs bs (omega (arith, long)) (omega (arith, e)))
 bits_same (true ∷ cs) (false ∷ bs) long e = absurd (omega (arith, e))
 bits_same (false ∷ cs) (true ∷ bs) long e = absurd (omega (arith, e))
+
+-- Each bit is the one that the number was made from.
+
+half : (b : Bool) (n : ℕ) → (bit_of b + 2 * n) / 2 ≡ n
+half false n = omega arith
+half true n = omega arith
+
+lowest : (b : Bool) (n : ℕ) → ((bit_of b + 2 * n) % 2 == 1) ≡ b
+lowest false n = let even : (0 + 2 * n) % 2 ≡ 0 = omega arith in rw even refl
+lowest true n = let odd : (1 + 2 * n) % 2 ≡ 1 = omega arith in rw odd refl
+
+pub bit_back : (bits : List Bool) (k : ℕ) → (bit_at (number_of_bits bits) k == 1) ≡ slice_index_or bits k false
+bit_back [] k = rw (bit_at-zero k) refl
+bit_back (b ∷ bits) zero = rw (bit_at_lowest (bit_of b + 2 * number_of_bits bits)) (lowest b (number_of_bits bits))
+bit_back (b ∷ bits) (suc k) = rw (bit_at-suc (bit_of b + 2 * number_of_bits bits) k, half b (number_of_bits bits)) (bit_back bits k)
 
 abbrev bit : ℕ → List Bool → Bool
 bit k bits = get_or bits k false
@@ -122,6 +142,9 @@ view-alike x t u a h = record {
   members = λ place z. let m = h.members place z in (m.0 ∙ sym (looks_hp t u a place), m.1 ∙ sym (looks_kind t u a place));
 }
 
+pub lives-alike : (t u : Party) → Alike t u → is_living (member_at t.active.place t) ≡ true → is_living (member_at u.active.place u) ≡ true
+lives-alike t u a z = sym (ap (λ (m : OwnMember). nat_lt 0 m.hp) (a.members t.active.place) ∙ ap (λ (place : ℕ). nat_lt 0 (looks place u).hp) a.place) ∙ z
+
 -- Types and conditions
 
 pub told-alike : (x : PublicSide) (t u : Party) → Alike t u → SideIsTold x u → SideIsTold x t
@@ -132,18 +155,20 @@ told-alike x t u a h = record {
   focus_energy = h.focus_energy ∙ sym (ap (λ (c : OwnConditions). bit_of c.focus_energy) a.conditions);
   disabled = h.disabled ∙ sym (ap (λ (c : OwnConditions). bit_of c.disabled) a.conditions);
   rage = h.rage ∙ sym (ap (λ (c : OwnConditions). bit_of c.rage) a.conditions);
-  seeded = λ z. h.seeded (sym (ap (λ (m : OwnMember). nat_lt 0 m.hp) (a.members t.active.place) ∙ ap (λ (place : ℕ). nat_lt 0 (looks place u).hp) a.place) ∙ z)
-      ∙ sym (ap (λ (c : OwnConditions). bit_of c.seeded) a.conditions);
+  seeded = λ z. h.seeded (lives-alike t u a z) ∙ sym (ap (λ (c : OwnConditions). bit_of c.seeded) a.conditions);
 }
 
 -- What the active member does
 
-pub does-alike : (x : PublicSide) (t u : Party) → Alike t u → SideDoes x u → SideDoes x t
-does-alike x t u a h = record {
+pub does-alike : (x : PublicSide) (t u : Party) → Alike t u → (is_living (member_at t.active.place t) ≡ true → x.announced.toxic_count ≡ unwrap_or t.active.conditions.bad_poison 0)
+    → SideDoes x u → SideDoes x t
+does-alike x t u a count h = record {
   bide = h.bide ∙ sym (ap (λ (c : OwnConditions). bit_of c.bide) a.conditions);
   charging = h.charging ∙ sym (ap (λ (c : OwnConditions). bit_of c.charging) a.conditions);
   toxic = h.toxic ∙ sym (ap (λ (c : OwnConditions). bit_of c.bad_poison) a.conditions);
+  toxic_count = count;
   invulnerable = λ z. ap (λ (c : OwnConditions). c.invulnerable) a.conditions ∙ h.invulnerable z;
+  unused = h.unused;
   last_move = h.last_move ∙ sym a.current;
   recharge = λ z. h.recharge (sym (ap (λ (c : OwnConditions). c.recharge) a.conditions) ∙ z);
   rests = h.rests;
@@ -467,6 +492,13 @@ own_alike clause o x s f b w h vf vb last own =
       few_second = few_u;
     }
 
+-- The counter of bad poison
+pub own_poison : (clause : Bool) (o : OwnSide) (x : PublicSide) (s : Side) (t : Party) (b : Field) → Shows o s b → Holds t (own_part clause o x)
+    → unwrap_or t.active.conditions.bad_poison 0 ≡ on (is_some (conditions_in s b).bad_poison) x.announced.toxic_count
+unfolding own_part
+own_poison clause o x s t b w h = ap (λ (a : ActiveState). a.bad_poison) h.active ∙ ap (λ (n : ℕ). on (bit_at n 13 == 1) x.announced.toxic_count) w.conditions
+    ∙ ap (λ (c : Bool). on c x.announced.toxic_count) (bit_back (shown_bits (own_conditions (conditions_in s b))) 13)
+
 -- Sleep
 
 pub marked-by : (clause : Bool) (status by : ℕ) (b : Bool) → bit_of b ≡ mark_of clause status by → b ≡ (clause && (status == 1 && by == 1))
@@ -478,15 +510,44 @@ marked-by clause status by b e = same (clause && (status == 1 && by == 1)) b e
     same true false e = absurd (omega (arith, e))
     same false true e = absurd (omega (arith, e))
 
--- A member with the mark that belongs to what is known of its sleep.
-pub sleeps-marked : (clause truth : Bool) (s : Seen) (m n : Member) → IsAsleepBy truth s m → (member_state n).marked ≡ mark_of clause s.status s.asleep_by → IsAsleepBy clause s n
-sleeps-marked clause truth s m n h e = record { cause = h.cause; mark = marked-by clause s.status s.asleep_by (is_marked n.status) e }
+-- Of a member that sleeps after so many turns, one turn is left at least.
+abbrev pub IsShort : Seen → Type 0
+IsShort s = s.status ≡ 1 → (s.asleep_by ≡ 1 → s.slept ≤ 6) × (s.asleep_by ≡ 2 → s.slept ≤ 1)
+
+pub short-of : (clause : Bool) (rules : Rules) (s : Seen) (m : Member) → IsStatus rules m.status → s.status ≡ kind_or_0 (kind_of m.status) → IsAsleepBy clause s m → IsShort s
+short-of clause rules s m v shown h = by m.status refl v
+  where
+    by : (status : Status) → m.status ≡ status → IsStatus rules status → IsShort s
+    by (Asleep n marked) e v = λ z. let adds = h.turns n marked e in let low = v.0.0 in (λ b. let sum = adds.0 b in omega (arith, sum, low), λ b. let sum = adds.1 b in omega (arith, sum, low))
+    by Healthy e v = λ z. absurd (let no : 1 ≡ 0 = sym z ∙ shown ∙ ap (λ (x : Status). kind_or_0 (kind_of x)) e in omega (arith, no))
+    by Poisoned e v = λ z. absurd (let no : 1 ≡ 2 = sym z ∙ shown ∙ ap (λ (x : Status). kind_or_0 (kind_of x)) e in omega (arith, no))
+    by Burned e v = λ z. absurd (let no : 1 ≡ 3 = sym z ∙ shown ∙ ap (λ (x : Status). kind_or_0 (kind_of x)) e in omega (arith, no))
+    by Frozen e v = λ z. absurd (let no : 1 ≡ 4 = sym z ∙ shown ∙ ap (λ (x : Status). kind_or_0 (kind_of x)) e in omega (arith, no))
+    by Paralysed e v = λ z. absurd (let no : 1 ≡ 5 = sym z ∙ shown ∙ ap (λ (x : Status). kind_or_0 (kind_of x)) e in omega (arith, no))
+
+left-adds : (by slept : ℕ) → (by ≡ 1 → slept ≤ 6) × (by ≡ 2 → slept ≤ 1) → (by ≡ 1 → slept + turns_left by slept ≤ 7) × (by ≡ 2 → slept + turns_left by slept ≡ 2)
+left-adds by slept short = (
+  λ e. let low = short.0 e in subst (λ (b : ℕ). slept + turns_left b slept ≤ 7) (sym e) (omega (arith, low)),
+  λ e. let low = short.1 e in subst (λ (b : ℕ). slept + turns_left b slept ≡ 2) (sym e) (omega (arith, low)),
+)
+
+pub turns-left : (s : Seen) (n : Member) → (member_state n).sleep ≡ sleep_of (member_state n).status s → (member_state n).status ≡ s.status → IsShort s
+    → (turns : ℕ) (marked : Bool) → n.status ≡ Asleep turns marked → (s.asleep_by ≡ 1 → s.slept + turns ≤ 7) × (s.asleep_by ≡ 2 → s.slept + turns ≡ 2)
+turns-left s n sleep status short turns marked e =
+    let one : (member_state n).status ≡ 1 = ap (λ (x : Status). kind_or_0 (kind_of x)) e in
+    let left : turns ≡ turns_left s.asleep_by s.slept = sym (ap turns_of e) ∙ sleep ∙ ap (λ (k : ℕ). sleep_of k s) one in
+    subst (λ (i : ℕ). (s.asleep_by ≡ 1 → s.slept + i ≤ 7) × (s.asleep_by ≡ 2 → s.slept + i ≡ 2)) (sym left) (left-adds s.asleep_by s.slept (short (sym status ∙ one)))
+
+-- A member with the mark and the count that belong to what is known of its sleep.
+pub sleeps-marked : (clause truth : Bool) (s : Seen) (m n : Member) → IsAsleepBy truth s m → (member_state n).marked ≡ mark_of clause s.status s.asleep_by
+    → (member_state n).sleep ≡ sleep_of (member_state n).status s → (member_state n).status ≡ s.status → IsShort s → IsAsleepBy clause s n
+sleeps-marked clause truth s m n h e sleep status short = record { cause = h.cause; mark = marked-by clause s.status s.asleep_by (is_marked n.status) e; turns = turns-left s n sleep status short }
 
 pub own_sleeps : (clause truth : Bool) (o : OwnSide) (x y : PublicSide) (s : Side) (f b : Field) → Shows o s b → Holds (party s f) (own_part clause o x) → length (party s f).members ≤ 6
     → ((k : ℕ) → k < 6 → (seen_in k y.members).species ≢ 0 → seen_in k x.members ≡ seen_in k y.members)
-    → SideAgrees y (side_shows (party s b)) → SideHasAppeared y (party s f) → SideSleeps truth y (party s b) → SideSleeps clause y (party s f)
+    → SideAgrees y (side_shows (party s b)) → SideHasAppeared y (party s f) → ((place : ℕ) → (seen_at place y).species ≢ 0 → IsShort (seen_at place y)) → SideSleeps truth y (party s b) → SideSleeps clause y (party s f)
 unfolding own_part
-own_sleeps clause truth o x y s f b w h few same view has sleeps place z = by (below_or (place - 1) 6)
+own_sleeps clause truth o x y s f b w h few same view has short sleeps place z = by (below_or (place - 1) 6)
   where
     t : Party
     t = party s f
@@ -499,9 +560,13 @@ own_sleeps clause truth o x y s f b w h few same view has sleeps place z = by (b
         let shown : (slice_index_or o.members k not_shown_member).status ≡ (seen_at place y).status =
         ap (λ (m : OwnMember). m.status) (w.members k low) ∙ ap (λ (i : ℕ). kind_or_0 (shown (slice_index_or (party s b).members i nobody)).kind) back
         ∙ sym (ap (λ (m : Shown). kind_or_0 m.kind) (shows_at (party s b) place)) ∙ sym (view.members place z).1 in
+        let m : OwnMember = slice_index_or o.members k not_shown_member in
+        let made : member_state (member_at place t) ≡ own_state clause (seen_in k x.members) m =
+        ap (λ (i : ℕ). member_state (slice_index_or t.members i nobody)) (sym back) ∙ h.members k low ∙ own_at clause o x k low in
         sleeps-marked clause truth (seen_at place y) (member_at place (party s b)) (member_at place t) (sleeps place z)
-        (ap (λ (i : ℕ). (member_state (slice_index_or t.members i nobody)).marked) (sym back) ∙ ap (λ (m : MemberState). m.marked) (h.members k low ∙ own_at clause o x k low)
-        ∙ ap (λ (n : ℕ). mark_of clause n (seen_in k x.members).asleep_by) shown ∙ ap (λ (m : Seen). mark_of clause (seen_at place y).status m.asleep_by) (same k low z))
+        (ap (λ (n : MemberState). n.marked) made ∙ ap (λ (n : ℕ). mark_of clause n (seen_in k x.members).asleep_by) shown ∙ ap (λ (m : Seen). mark_of clause (seen_at place y).status m.asleep_by) (same k low z))
+        (ap (λ (n : MemberState). n.sleep) made ∙ ap (λ (q : Seen). sleep_of m.status q) (same k low z) ∙ ap (λ (i : ℕ). sleep_of i (seen_at place y)) (sym (ap (λ (n : MemberState). n.status) made)))
+        (ap (λ (n : MemberState). n.status) made ∙ shown) (short place z)
 
 -- The same is shown
 

@@ -54,15 +54,16 @@ blocked_slot m last =
     else 1
 
 -- What is known of an active member: of the own one what was shown, of the foe's what the log made public.
-abbrev pub own_known : OwnSide → ℕ → Known
-own_known own last = record {
+abbrev pub own_known : OwnSide → PublicSide → Known
+own_known own x = record {
   conditions = own.conditions;
   stats = own.stats;
   place = own.place;
   types = own.types;
   stages = own.stages;
   disabled_slot = own.disabled_slot;
-  last_move = last;
+  bad_poison = x.announced.toxic_count;
+  last_move = x.last_move;
 }
 
 abbrev pub foe_known : PublicSide → Bool → MemberState → Known
@@ -73,6 +74,7 @@ foe_known x held m = record {
   types = x.first_type ∷ x.second_type ∷ [];
   stages = x.stages.attack ∷ x.stages.defense ∷ x.stages.speed ∷ x.stages.special ∷ x.stages.accuracy ∷ x.stages.evasion ∷ [];
   disabled_slot = on (is_on x.announced.disabled) (blocked_slot m x.last_move);
+  bad_poison = x.announced.toxic_count;
   last_move = x.last_move;
 }
 
@@ -92,7 +94,7 @@ abbrev pub has : ℕ → ℕ → Bool
 has conditions bit = bit_at conditions bit == 1
 
 -- The active member, with middle values of the hidden counts: three turns of confusion, four of Disable, two of Bide,
--- thrashing or trapping, a Substitute of a quarter of the maximum HP, and bad poison at its beginning.
+-- thrashing or trapping, and a Substitute of a quarter of the maximum HP.
 abbrev pub active_state : Known → MemberState → ActiveState
 active_state k m = record {
   conditions = k.conditions;
@@ -108,6 +110,6 @@ active_state k m = record {
   confusion = on (has k.conditions 6) 3;
   disabled_slot = k.disabled_slot;
   disabled_turns = on (has k.conditions 16) 4;
-  bad_poison = on (has k.conditions 13) 1;
+  bad_poison = on (has k.conditions 13) k.bad_poison;
   turns = on ((has k.conditions 0 || has k.conditions 1) || has k.conditions 2) 2;
 }

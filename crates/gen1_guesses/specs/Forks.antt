@@ -45,7 +45,7 @@ side_of number = if number == 1 then Some One else if number == 2 then Some Two 
 unfoldable pub own_part : Bool → OwnSide → PublicSide → SideState
 own_part clause own x =
     let members = own_members clause x.members own.members in
-    record { members = members; active = active_state (own_known own x.last_move) (member_at own.place members) }
+    record { members = members; active = active_state (own_known own x) (member_at own.place members) }
 
 -- The foe's side: as the log made it public, and where it did not, as in the guess.
 unfoldable pub foe_part : Bool → PublicSide → Bool → List MemberState → SideState

@@ -10,9 +10,13 @@ use Rattle.gen1_states.specs.Plain.{no_member}
 use Rattle.gen1_states.specs.Reading.{member_state}
 use Rattle.gen1_states.specs.declared.plain.MemberState.{MemberState}
 
--- A sleeping member (kind 1) has three turns of sleep left, or two by its Rest.
-abbrev pub sleep_of : ℕ → ℕ → ℕ
-sleep_of status asleep_by = if status == 1 then (if asleep_by == 2 then 2 else 3) else 0
+-- The turns of sleep that are left after some: of two by Rest, and else three, while as many may be left.
+abbrev pub turns_left : ℕ → ℕ → ℕ
+turns_left asleep_by slept = if asleep_by == 2 then max 1 (2 - slept) else max 1 (min 3 (7 - slept))
+
+-- A sleeping member has the kind 1.
+abbrev pub sleep_of : ℕ → Seen → ℕ
+sleep_of status s = if status == 1 then turns_left s.asleep_by s.slept else 0
 
 -- Under the sleep clause it has the mark if a move of the foe put it to sleep.
 abbrev pub mark_of : Bool → ℕ → ℕ → ℕ
@@ -27,7 +31,7 @@ own_member clause s m = record {
   species = m.species;
   level = m.level;
   status = m.status;
-  sleep = sleep_of m.status s.asleep_by;
+  sleep = sleep_of m.status s;
   marked = mark_of clause m.status s.asleep_by;
   moves = m.moves;
   pp = m.pp;
@@ -85,7 +89,7 @@ pp_left uses m = pp_in 0 uses m ∷ pp_in 1 uses m ∷ pp_in 2 uses m ∷ pp_in 
 abbrev pub told : Bool → Seen → MemberState → MemberState
 told clause s m = record m {
   status = s.status;
-  sleep = sleep_of s.status s.asleep_by;
+  sleep = sleep_of s.status s;
   marked = mark_of clause s.status s.asleep_by;
   pp = pp_left s.moves m;
   hp = hp_of s.hp s.max m.max_hp;

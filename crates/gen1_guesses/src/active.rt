@@ -43,13 +43,15 @@ pub(crate) struct Known {
     pub(crate) types: [u8; 2],
     pub(crate) stages: [u8; 6],
     pub(crate) disabled_slot: u8,
+    /// The counter of bad poison.
+    pub(crate) bad_poison: u8,
     /// The number of the move that it used or prepared last; 0 for none.
     pub(crate) last_move: u8,
 }
 
-/// The player's own active member: as it was shown.
-pub(crate) fn own_known(own: &OwnSide, last_move: u8) -> Known
-    ensures { result ≡ own_known own.now last_move }
+/// The player's own active member: as it was shown, and as the log made public.
+pub(crate) fn own_known(own: &OwnSide, seen: &PublicSide) -> Known
+    ensures { result ≡ own_known own.now seen.now }
 {
     Known {
         conditions: own.conditions,
@@ -58,7 +60,8 @@ pub(crate) fn own_known(own: &OwnSide, last_move: u8) -> Known
         types: own.types,
         stages: own.stages,
         disabled_slot: own.disabled_slot,
-        last_move,
+        bad_poison: seen.announced.toxic_count,
+        last_move: seen.last_move,
     }
 }
 
@@ -84,6 +87,7 @@ pub(crate) fn foe_known(foe: &PublicSide, held: bool, member: &MemberState) -> K
             is_on(foe.announced.disabled),
             blocked_slot(member, foe.last_move),
         ),
+        bad_poison: foe.announced.toxic_count,
         last_move: foe.last_move,
     }
 }
@@ -197,7 +201,7 @@ pub(crate) fn active_state(known: &Known, member: &MemberState) -> ActiveState
         confusion: on(has(conditions, CONFUSED), 3),
         disabled_slot: known.disabled_slot,
         disabled_turns: on(has(conditions, DISABLED), 4),
-        bad_poison: on(has(conditions, BAD_POISON), 1),
+        bad_poison: on(has(conditions, BAD_POISON), known.bad_poison),
         turns: on(counts, 2),
     }
 }

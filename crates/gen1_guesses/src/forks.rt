@@ -116,7 +116,7 @@ fn own_part(clause: bool, own: &OwnSide, public: &PublicSide) -> SideState
     ensures { result ≡ own_part clause own.now public.now }
 {
     let members = own_members(clause, &public.members, &own.members);
-    let known = own_known(own, public.last_move);
+    let known = own_known(own, public);
     let active = active_state(&known, &member_at(own.place, &members));
     SideState { members, active }
 }

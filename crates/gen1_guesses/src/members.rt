@@ -4,7 +4,7 @@ ghost use Rattle.gen1_machine.specs.State.{known_in};
 ghost use Rattle.gen1_stats.specs.Members.{nobody};
 ghost use Rattle.gen1_states.specs.Plain.{no_member};
 ghost use Rattle.gen1_states.specs.Reading.{member_state};
-ghost use Rattle.gen1_guesses.specs.Members.{fresh_members, hp_of, in_slot, least_hp, mark_of, member_at, members_of, own_at, own_member, own_members, pp_left, sleep_of, told, told_at, told_if_seen, uses_of};
+ghost use Rattle.gen1_guesses.specs.Members.{fresh_members, hp_of, in_slot, least_hp, mark_of, member_at, members_of, own_at, own_member, own_members, pp_left, sleep_of, told, told_at, told_if_seen, turns_left, uses_of};
 
 use gen1_player::{OwnMember, Seen, SeenMove};
 use gen1_states::MemberState;
@@ -52,7 +52,7 @@ fn own_member(clause: bool, seen: &Seen, shown: &OwnMember) -> MemberState
         species: shown.species,
         level: shown.level,
         status: shown.status,
-        sleep: sleep_of(shown.status, seen.asleep_by),
+        sleep: sleep_of(shown.status, seen),
         marked: mark_of(clause, shown.status, seen.asleep_by),
         moves: shown.moves,
         pp: shown.pp,
@@ -62,16 +62,24 @@ fn own_member(clause: bool, seen: &Seen, shown: &OwnMember) -> MemberState
     }
 }
 
-// The turns of sleep left: a middle count, or those of Rest.
-fn sleep_of(status: u8, asleep_by: u8) -> u8
-    ensures { result ≡ sleep_of status asleep_by }
+fn sleep_of(status: u8, seen: &Seen) -> u8
+    ensures { result ≡ sleep_of status seen.now }
 {
-    if status != ASLEEP {
-        0
-    } else if asleep_by == BY_REST {
-        2
+    if status == ASLEEP {
+        turns_left(seen.asleep_by, seen.slept)
     } else {
-        3
+        0
+    }
+}
+
+// The turns of sleep left after some: those of Rest, or a middle count, while as many may be left.
+fn turns_left(asleep_by: u8, slept: u8) -> u8
+    ensures { result ≡ turns_left asleep_by slept }
+{
+    if asleep_by == BY_REST {
+        2u8.saturating_sub(slept).max(1)
+    } else {
+        7u8.saturating_sub(slept).min(3).max(1)
     }
 }
 
@@ -206,7 +214,7 @@ fn told(clause: bool, seen: &Seen, fresh: &MemberState) -> MemberState
 {
     MemberState {
         status: seen.status,
-        sleep: sleep_of(seen.status, seen.asleep_by),
+        sleep: sleep_of(seen.status, seen),
         marked: mark_of(clause, seen.status, seen.asleep_by),
         pp: pp_left(&seen.moves, fresh),
         hp: hp_of(seen.hp, seen.max, fresh.max_hp),

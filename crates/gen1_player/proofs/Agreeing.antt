@@ -31,7 +31,7 @@ use Rattle.gen1_machine.specs.View.{cleared, first_side_view, first_view, if_out
 use Rattle.gen1_player.specs.declared.public.Public.{Public}
 use Rattle.gen1_player.specs.declared.public_side.PublicSide.{PublicSide}
 use Rattle.gen1_player.specs.declared.seen.Seen.{Seen}
-use Rattle.gen1_player.specs.Public.{acting, begins, broken_off_if, comes_out, drops, ends_recharging, first_public, first_public_side, gets_status, has_fainted, has_hit_itself, hears, hears_all, if_seen_out, is_afflicted, is_cleared, is_cured, is_kept_by, is_overtaken, not_seen, on_announced, on_out, on_public_side, on_seen, prepares, public_side, recharges_unless, rises, seen_at, set_volatile, settled, starts_bide, suffers_move, takes_damage, takes_in, takes_types, uses_move}
+use Rattle.gen1_player.specs.Public.{acting, begins, broken_off_if, comes_out, drops, ends_recharging, first_public, first_public_side, gets_status, has_fainted, has_hit_itself, hears, hears_all, if_seen_out, is_afflicted, is_cleared, is_cured, is_kept_by, is_overtaken, not_seen, on_announced, on_out, on_public_side, on_seen, prepares, public_side, recharges_unless, rises, seen_at, set_volatile, settled, starts_bide, suffers_move, takes_damage, takes_in, takes_types, uses_move, is_kept, sleeps_on}
 use Rattle.gen1_player.specs.True.{AgreesWith, SideAgrees}
 use Rattle.gen1_player.proofs.Facts.{side_out, Sizes, size_of, Fits}
 
@@ -186,18 +186,29 @@ member-meets f g b same looks k x y out m =
 
 -- Announcements
 
-kept-essence : (why : CantReason) (y : PublicSide) → essence (on_announced (is_kept_by why) y) ≡ essence y
-kept-essence reasons.Flinched y = refl
-kept-essence reasons.Recharging y = refl
-kept-essence reasons.Disabled y = refl
-kept-essence reasons.Paralysed y = refl
-kept-essence _ y = refl
+told-essence : (why : CantReason) (y : PublicSide) → essence (on_announced (is_kept_by why) y) ≡ essence y
+told-essence reasons.Flinched y = refl
+told-essence reasons.Recharging y = refl
+told-essence reasons.Disabled y = refl
+told-essence reasons.Paralysed y = refl
+told-essence _ y = refl
+
+kept-essence : (why : CantReason) (y : PublicSide) → essence (is_kept why y) ≡ essence y
+kept-essence why y = told-essence why (on_seen (sleeps_on why) y)
+    ∙ ap (λ (l : List Brief). record (essence y) { members = l }) (map-set_same brief y.members (y.place - 1) (sleeps_on why (seen_at y.place y)) not_seen refl)
+
+worse-essence : (b : Bool) (y : PublicSide) → essence (on_announced (λ a. if b then a else record a { toxic_count = min 64 (a.toxic_count + 1) }) y) ≡ essence y
+worse-essence true y = refl
+worse-essence false y = refl
 
 hurt-essence : (source : DamageSource) (y : PublicSide) → essence (takes_damage source y) ≡ essence y
 hurt-essence sources.Confusion y = refl
+hurt-essence sources.Poison y = worse-essence (y.announced.toxic == 0) y
+hurt-essence sources.Burn y = worse-essence (y.announced.toxic == 0) y
+hurt-essence sources.LeechSeed y = worse-essence (y.announced.toxic == 0) y
 hurt-essence _ y = refl
 
-poison-essence : (b : Bool) (y : PublicSide) → essence (on_announced (λ a. if b then record a { toxic = 1 } else a) y) ≡ essence y
+poison-essence : (b : Bool) (y : PublicSide) → essence (on_announced (λ a. if b then record a { toxic = 1; toxic_count = 0 } else a) y) ≡ essence y
 poison-essence true y = refl
 poison-essence false y = refl
 
@@ -437,7 +448,7 @@ module _ {n : Sizes} {v : View} {p : Public} where
   takes-meets (events.Switch w place level h) f m = side-meets w.side (sees_switch place h) (comes_out w.species place level h)
       (switched-meets w.species place level h (size_of w.side n) (side_view w.side v) (public_side w.side p) f.0 f.1) m
   takes-meets (events.Move w move foe) f m = moves-meet w.side (other w.side) move m
-  takes-meets (events.Cant w why) f m = quiet w.side (on_announced (is_kept_by why)) (kept-essence why) m
+  takes-meets (events.Cant w why) f m = quiet w.side (is_kept why) (kept-essence why) m
   takes-meets (events.Damage w h source) f m = hits-meet w.side h.hp source m
   takes-meets (events.Heal w h) f m = named w.side (on_shown (λ x. record x { hp = h.hp })) (on_seen (λ z. record z { hp = h.hp }))
       (member-meets (λ z. record z { hp = h.hp }) (λ z. record z { hp = h.hp }) (λ z. record z { hp = h.hp }) (λ z. refl) (λ z b l e. (refl, (l e).1))) m

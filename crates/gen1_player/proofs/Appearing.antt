@@ -29,7 +29,7 @@ use Rattle.gen1_player.specs.declared.public.Public.{Public}
 use Rattle.gen1_player.specs.declared.public_side.PublicSide.{PublicSide}
 use Rattle.gen1_player.specs.declared.seen.Seen.{Seen}
 use Rattle.gen1_player.specs.declared.seen.SeenMove.{SeenMove}
-use Rattle.gen1_player.specs.Public.{activates, begins, bide, comes_out, ends_recharging, gets_status, has_fainted, is_afflicted, is_cleared, is_cured, is_kept_by, is_overtaken, not_seen, not_used, on_announced, on_out, on_seen, public_side, recharges_unless, seen_at, set_volatile, settled, suffers_move, takes_damage, takes_in, takes_types, used_in, uses_again}
+use Rattle.gen1_player.specs.Public.{activates, begins, bide, comes_out, ends_recharging, gets_status, has_fainted, is_afflicted, is_cleared, is_cured, is_kept, is_overtaken, not_seen, not_used, on_announced, on_out, on_seen, public_side, recharges_unless, seen_at, set_volatile, settled, sleeps_on, suffers_move, takes_damage, takes_in, takes_types, used_in, uses_again}
 use Rattle.gen1_player.specs.True.{IsMoveOf, IsSeen}
 use Rattle.gen1_player.proofs.Facts.{side_out, is_noise, traits, Starts, Traits}
 use Rattle.gen1_player.proofs.HeardSides.{quiet-side, same-sides, settled-look}
@@ -73,7 +73,7 @@ unfolding takes_in
 noise-faces (events.Turn i) h u p = same-sides faces u (record p { turn = i }) p refl refl
 noise-faces (events.Switch w place level k) h u p = absurd (true≢false (sym h))
 noise-faces (events.Move w move foe) h u p = absurd (true≢false (sym h))
-noise-faces (events.Cant w why) h u p = quiet-side faces w.side u (on_announced (is_kept_by why)) p (λ x. refl)
+noise-faces (events.Cant w why) h u p = quiet-side faces w.side u (is_kept why) p (λ x. seen-faces (sleeps_on why) (λ s. refl) x)
 noise-faces (events.Damage w k source) h u p = quiet-side faces w.side u (λ x. takes_damage source (on_seen (λ m. record m { hp = k.hp }) x)) p
     (λ x. seen-faces (λ m. record m { hp = k.hp }) (λ s. refl) x)
 noise-faces (events.Heal w k) h u p = quiet-side faces w.side u (on_seen (λ m. record m { hp = k.hp })) p (λ x. seen-faces (λ m. record m { hp = k.hp }) (λ s. refl) x)

@@ -1,4 +1,5 @@
 -- After any run, the types and conditions that the log told of are those of the active members.
+use Rattle.gen1_machine.specs.declared.event.CantReason.TheVariants as reasons
 use Rattle.std.proofs.Common.{[], Bool, List, ap, arith, false, if◌then◌else◌, length, length-set, not, refl, subst, sym, true, true≢false, ℕ, ◌++◌, ◌-◌, ◌==◌, ◌∙◌, ◌∷◌, ◌≡◌, ◌≤◌}
 use Rattle.gen1_tables.specs.Types.{number_of}
 use Rattle.gen1_stats.specs.Members.{is_living, Member}
@@ -15,7 +16,7 @@ use Rattle.gen1_machine.specs.Moves.{toxic, Move}
 use Rattle.gen1_machine.specs.Rules.{bit_of}
 use Rattle.gen1_machine.specs.Sides.{other}
 use Rattle.gen1_machine.specs.Conditions.{after_haze, with_bad_poison, with_bide, with_recharge, without_seed, without_trapping, ActiveConditions}
-use Rattle.gen1_machine.specs.State.{Active, Field, Party, active_in, changed_active, changed_conditions, changed_member, fallen, has_fallen_in, health_in, member_at, member_in, party, who_in, with_current_move, with_member, with_pp_spent, with_types_of}
+use Rattle.gen1_machine.specs.State.{Active, Field, Party, active_in, changed_active, changed_conditions, changed_member, fallen, has_fallen_in, health_in, member_at, member_in, party, who_in, with_current_move, with_member, with_pp_spent, with_types_of, with_sleep_one_less}
 use Rattle.gen1_machine.specs.EarlyEffects.{with_levelled_stats}
 use Rattle.gen1_machine.specs.SwitchingIn.{switch_event, with_sent_out}
 use Rattle.gen1_machine.proofs.Showing.{member-after, BothOut, IsOut}
@@ -24,7 +25,7 @@ use Rattle.gen1_player.specs.declared.public_side.PublicSide.{PublicSide}
 use Rattle.gen1_player.specs.Public.{comes_out, first_public, hears_all, is_cleared, on_announced, on_out, public_side, set_volatile, settled, takes_in, takes_types}
 use Rattle.gen1_player.specs.True.{ConditionsAgree, SideIsTold}
 use Rattle.gen1_player.proofs.Facts.{calm-mild, dull-noise, noise-is, noted, plain_of, sent-place, sent-standing, followed, is_noise, marked, plain, sent, standing, starts-marks, with_cleared, Followed, Marks, Mild, Placid, Plain, Standing, Starts}
-use Rattle.gen1_player.proofs.Stories.{Outline, Story, Switching, sickened, slept}
+use Rattle.gen1_player.proofs.Stories.{Outline, Story, Switching, sickened, slept, Dozing}
 use Rattle.gen1_machine.specs.Ruling.{ruling_of}
 use Rattle.gen1_player.proofs.ToldEffects.{ruling_of-tells}
 use Rattle.gen1_player.proofs.ToldActions.{act-tells, says-any}
@@ -436,7 +437,7 @@ telling = record {
   said = λ s move. Unit {0};
   acted = λ s move. Unit {0};
   knows = λ s move. Unit {0};
-  lulled = λ s marked. Unit {0};
+  lulled = λ s turns marked. Unit {0};
   upright = λ s. Unit {0};
   loosen = λ f es m. record { one = loosened _ _ m.one; two = loosened _ _ m.two };
   tighten = λ f es m a b. record { one = tightened _ _ (none-fallen One f a) m.one; two = tightened _ _ (none-fallen Two f b) m.two };
@@ -474,6 +475,13 @@ telling-outline = record {
   knows = λ s move k. tt;
 }
 
+telling-dozes : Dozing telling
+unfolding telling
+telling-dozes = record {
+  dozes = λ s turns marked f es o a h m. let g : Field = changed_member s with_sleep_one_less f in
+      noise-both (events.Cant (who_in s g) reasons.Asleep) refl g es (both-member s with_sleep_one_less f (told_by es) m);
+}
+
 telling-switches : Switching telling
 unfolding telling
 telling-switches = record {
@@ -501,7 +509,7 @@ side-told x t m = record {
 pub conditions_agree : ConditionsAgree
 unfolding hears_all telling
 conditions_agree t one two seed pairs a b =
-    let m = story-runs telling t one two seed pairs a b telling-switches
-    (λ pre. act-tells telling-outline (ruling_of t) (ruling_of-tells t) (says-any telling-outline (λ s move. tt) (λ u marked. tt) (λ u. tt) (ruling_of t) (ruling_of-tells t)))
+    let m = story-runs telling t one two seed pairs a b telling-outline telling-switches
+    (λ pre. act-tells telling-outline telling-dozes (ruling_of t) (ruling_of-tells t) (says-any telling-outline (λ s move. tt) (λ u turns marked. tt) (λ u. tt) (ruling_of t) (ruling_of-tells t)))
     (record { one = record { same = refl; few = a.size.1 }; two = record { same = refl; few = b.size.1 } }) in
     (side-told _ _ m.one, side-told _ _ m.two)

@@ -1,4 +1,6 @@
 -- The story of one member's moves: what it knows of them, with PP, and what was seen of them. Only the use of a move of its own tells more.
+use Rattle.gen1_machine.specs.declared.event.CantReason.TheVariants as reasons
+use Rattle.gen1_player.proofs.ToldGate.{sleep-tame}
 use Rattle.gen1_stats.specs.declared.status.Status.{Status}
 use Rattle.gen1_stats.specs.declared.status.Status.TheVariants.{Asleep}
 use Rattle.std.proofs.Common.{[], ap, arith, false, get_or, get_or-set_same, if◌then◌else◌, inl, inr, length, length-set, map, min, refl, slice_index_or, slice_set, subst, suc, sym, true, true≢false, zero, ◌++◌, ◌+◌, ◌-◌, ◌<◌, ◌==◌, ◌||◌, ◌∙◌, ◌∷◌, ◌≡◌, ◌≢◌, ◌≤◌, ◌⊎◌, Bool, List, None, Option, Some, ℕ}
@@ -21,7 +23,7 @@ use Rattle.gen1_machine.specs.LogBytes.{kind_or_0}
 use Rattle.gen1_machine.specs.Moves.{toxic, Move}
 use Rattle.gen1_machine.specs.Sides.{other}
 use Rattle.gen1_machine.specs.Conditions.{after_haze, with_bad_poison, with_bide, with_recharge, without_seed, ActiveConditions}
-use Rattle.gen1_machine.specs.State.{Active, Field, Party, active_in, after_use, changed_active, changed_conditions, changed_member, fallen, health_in, member_at, member_in, party, who_in, with_current_move, with_less_pp, with_member, with_pp_spent, with_status, with_types_of}
+use Rattle.gen1_machine.specs.State.{Active, Field, Party, active_in, after_use, changed_active, changed_conditions, changed_member, fallen, health_in, member_at, member_in, party, who_in, with_current_move, with_less_pp, with_member, with_pp_spent, with_status, with_types_of, with_sleep_one_less}
 use Rattle.gen1_machine.specs.EarlyEffects.{with_levelled_stats}
 use Rattle.gen1_machine.specs.SwitchingIn.{switch_event}
 use Rattle.gen1_player.specs.declared.public.Public.{Public}
@@ -30,7 +32,7 @@ use Rattle.gen1_player.specs.declared.seen.Seen.{Seen}
 use Rattle.gen1_player.specs.declared.seen.SeenMove.{SeenMove}
 use Rattle.gen1_player.specs.Public.{begins, comes_out, first_public, is_slot, not_seen, not_used, on_out, on_public_side, prepares, public_side, seen_at, settled, starts_bide, takes_in, used_in, used_more, uses_move}
 use Rattle.gen1_player.proofs.Facts.{dull-noise, noise-is, sent, sent-place, with_cleared, Noise, Sparing, Standing}
-use Rattle.gen1_player.proofs.Stories.{Outline, Story, Switching, sickened, slept}
+use Rattle.gen1_player.proofs.Stories.{Outline, Story, Switching, sickened, slept, Dozing}
 use Rattle.gen1_player.proofs.HeardSides.{bide-hears, clear-hears, end-hears, foe-side, hears-in, hears_all-last, move-hears, prepare-hears, switch-hears}
 use Rattle.gen1_player.proofs.Appearing.{clear-faces, comes-faces, end-faces, face, faces, is_bide, no_face, noise-faces, rest-faces, settled-faces, start-faces, starts-otherwise, suffers-same, Face, Faces}
 use Rattle.gen1_player.proofs.DeedStory.{told_by}
@@ -258,7 +260,7 @@ module _ (σ : Side) (i : ℕ) (G : About) where
     said = λ s move. Against σ s;
     acted = λ s move. Unit {0};
     knows = λ s move. Against σ s ⊎ (bides move.effect ≡ false);
-    lulled = λ s marked. Unit {0};
+    lulled = λ s turns marked. Unit {0};
     upright = λ s. Unit {0};
     loosen = λ f es m. m;
     tighten = λ f es m a b. m;
@@ -296,6 +298,13 @@ module _ (σ : Side) (i : ℕ) (G : About) where
     noise = λ e f h es m. counts-noise e f h es m;
     acts = λ s move. tt;
     knows = λ s move a. inl a;
+  }
+
+  pub counting-dozes : Dozing counting
+  unfolding counting
+  counting-dozes = record {
+    dozes = λ s turns marked f es o a h m. let g : Field = changed_member s with_sleep_one_less f in let e : Event = events.Cant (who_in s g) reasons.Asleep in
+        counts-told e (λ p. noise-faces e refl σ p) g es (counts-member s with_sleep_one_less (sparing-moves with_sleep_one_less sleep-tame) f es m);
   }
 
 -- A member comes out

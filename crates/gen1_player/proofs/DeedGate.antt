@@ -34,7 +34,7 @@ use Rattle.gen1_machine.proofs.Showing.{BothOut}
 use Rattle.gen1_machine.proofs.Watching.{after-leads, before-leads, choose-sees, choose-tells, given-tells, stay-tells, stop-leads, ◌⊳◌, Leads, Runs}
 use Rattle.gen1_player.specs.declared.public.Public.{Public}
 use Rattle.gen1_player.specs.declared.public_side.PublicSide.{PublicSide}
-use Rattle.gen1_player.specs.Public.{acting, activates, first_public, broken_off_if, has_hit_itself, is_kept_by, on_announced, on_out, on_public_side, on_seen, public_side, set_volatile, settled, settled_by, takes_damage, takes_in, waiting_for}
+use Rattle.gen1_player.specs.Public.{acting, activates, first_public, broken_off_if, has_hit_itself, is_kept, on_out, on_public_side, on_seen, public_side, set_volatile, settled, settled_by, takes_damage, takes_in, waiting_for, on_announced}
 use Rattle.gen1_player.specs.True.{is_fault}
 use Rattle.gen1_player.proofs.Facts.{confusion-calm, disable-calm, is_dull, substitute-calm, traits, Marks, Sizes, Tame}
 use Rattle.gen1_player.proofs.Stories.{at_end, begun-conditions, begun-member, Begun}
@@ -102,7 +102,7 @@ pub record Silent (s : Side) (f : Field) (es : List Event) : Type 0 where
 
 -- It is kept from acting.
 abbrev pub Kept : CantReason → Side → Field → List Event → Type 0
-Kept why s f es = Even f (on_out s (on_announced (is_kept_by why)) (settled_by (side_number s) (told_by es)))
+Kept why s f es = Even f (on_out s (is_kept why) (settled_by (side_number s) (told_by es)))
 
 abbrev pub Over : Bool → Side → Field → List Event → Type 0
 Over b s f es = Past b s f es ⊎ (is_fault f.outcome ≡ true)
@@ -223,7 +223,7 @@ is_light reasons.Disabled = false
 is_light reasons.Paralysed = false
 is_light _ = true
 
-light-fades : (why : CantReason) → is_light why ≡ true → (x : PublicSide) → Fades (on_announced (is_kept_by why) x) x
+light-fades : (why : CantReason) → is_light why ≡ true → (x : PublicSide) → Fades (is_kept why x) x
 light-fades reasons.Flinched h x = record { same = refl; reach = λ e. e; rests = λ e. absurd (e refl); last = refl }
 light-fades reasons.Recharging h x = record { same = refl; reach = λ e. e; rests = λ e. absurd (e refl); last = refl }
 light-fades reasons.Disabled h x = absurd (true≢false (sym h))
@@ -231,18 +231,18 @@ light-fades reasons.Paralysed h x = absurd (true≢false (sym h))
 light-fades _ h x = record { same = refl; reach = λ e. e; rests = λ e. e; last = refl }
 
 kept-light : (why : CantReason) → is_light why ≡ true → (s : Side) (f : Field) (es : List Event) → Even f (settled_by (side_number s) (told_by es)) → Kept why s f es
-kept-light why h s f es m = even-fades f (settled_by (side_number s) (told_by es)) _ (λ u. fades-side s u (on_announced (is_kept_by why)) _ (light-fades why h)) m
+kept-light why h s f es m = even-fades f (settled_by (side_number s) (told_by es)) _ (λ u. fades-side s u (is_kept why) _ (light-fades why h)) m
 
 cant-tale : (why : CantReason) (s : Side) (f : Field) (es : List Event) → Kept why s f es → Tale Nothing_more f (es ++ events.Cant (who_in s f) why ∷ [])
 unfolding takes_in
-cant-tale why s f es m = acted-tale Nothing_more (side_number s) f es (events.Cant (who_in s f) why) refl m (pending-out s (on_announced (is_kept_by why)) _) tt
+cant-tale why s f es m = acted-tale Nothing_more (side_number s) f es (events.Cant (who_in s f) why) refl m (pending-out s (is_kept why) _) tt
 
 kept-disabled : (s : Side) (f : Field) (es : List Event) → BothOut f → Even f (settled_by (side_number s) (told_by es)) → Kept reasons.Disabled s (changed_conditions s without_charging f) es
 unfolding changed_active changed_conditions without_charging
 kept-disabled s f es o m =
     let q : Public = settled_by (side_number s) (told_by es) in
     let d = does-in s m in
-    even-party s (on_announced (is_kept_by reasons.Disabled)) (with_conditions without_charging (party s f)) f q o
+    even-party s (is_kept reasons.Disabled) (with_conditions without_charging (party s f)) f q o
     (record { same = ap (λ (k : Deeds). record k { charging = 0 }) d.same; reach = d.reach; rests = d.rests; last = d.last; few = d.few }) m
 
 kept-paralysed : (s : Side) (f : Field) (es : List Event) → BothOut f → Even f (settled_by (side_number s) (told_by es)) → Kept reasons.Paralysed s (changed_conditions s broken_off f) es
@@ -250,7 +250,7 @@ unfolding changed_active changed_conditions broken_off
 kept-paralysed s f es o m =
     let q : Public = settled_by (side_number s) (told_by es) in
     let d = does-in s m in
-    even-party s (on_announced (is_kept_by reasons.Paralysed)) (with_conditions broken_off (party s f)) f q o
+    even-party s (is_kept reasons.Paralysed) (with_conditions broken_off (party s f)) f q o
     (record { same = ap (λ (k : Deeds). record k { bide = 0; charging = 0 }) d.same; reach = d.reach; rests = d.rests; last = d.last; few = d.few }) m
 
 -- The hit on itself

@@ -321,9 +321,9 @@ upright-deeds : (U : Public → Type 0) (l : Lasts U) (s : Side) → (deeding U 
 unfolding deeding
 upright-deeds U l s = tt
 
-lulled-use : (s : Side) (move : Move) (u : Side) (marked : Bool) → (after_use s move).lulled u marked
+lulled-use : (s : Side) (move : Move) (u : Side) (turns : ℕ) (marked : Bool) → (after_use s move).lulled u turns marked
 unfolding deeding
-lulled-use s move u marked = tt
+lulled-use s move u turns marked = tt
 
 knows-used : (s : Side) (move : Move) → move ≡ move_at move.number → bides move.effect ≡ false → (after_use s move).knows s move
 unfolding deeding UsedBy
@@ -361,14 +361,14 @@ module _ (t : Terms) {n : Sizes} {pre : List Event} (b : Bool) (s : Side) (pick 
   lead-deeds : Leads (In n pre (Off b s pick move)) (Now (after_use s move) n pre) (In n pre (Over b s)) (lead_up s pick move)
   unfolding lead_up
   lead-deeds = charge-deeds b s pick move same ⊳ use-deeds b s pick move same h
-      ⊳ rests-leads (used-over b s move) (choose-tells _ (early_effect-tells s move move.effect (acted-use s move) (λ e. lulled-use s move s false) ⊳ stop-tells) stay-tells ⊳ prelude-tells s move)
+      ⊳ rests-leads (used-over b s move) (choose-tells _ (early_effect-tells s move move.effect (acted-use s move) (λ e. lulled-use s move s 2 false) ⊳ stop-tells) stay-tells ⊳ prelude-tells s move)
 
   carry-plain : Leads (Readies n pre b s pick move) (In n pre (Over b s)) (In n pre (Over b s)) (carry_out (ruling_of t) s pick move)
   unfolding carry_out
   carry-plain = none-goes
       ⊳ watching.choose-sees lets_energy_go (record { leads = λ p r m. absurd (true≢false (sym m.1 ∙ m.0.1)) }) (before-leads (λ p m. m.0.0) lead-deeds)
       ⊳ rests-leads (used-over b s move) (choose-tells _ stay-tells (damage_of-tells s move move.effect))
-      ⊳ rests-leads (used-over b s move) (choose-tells _ stay-tells (choose-tells _ (late_effect-tells (ruling_of t) (ruling_of-tells t) s move move.effect (λ e. (knows-used s move same h, e)) (λ e. lulled-use s move (other s) t.rules.sleep_clause) ⊳ stop-tells) stay-tells))
+      ⊳ rests-leads (used-over b s move) (choose-tells _ stay-tells (choose-tells _ (late_effect-tells (ruling_of t) (ruling_of-tells t) s move move.effect (λ e. (knows-used s move same h, e)) (λ e turns few. lulled-use s move (other s) turns t.rules.sleep_clause) ⊳ stop-tells) stay-tells))
       ⊳ after-leads (used-over b s move) (rests-leads (used-over b s move) (strike-tells (ruling_of t) (ruling_of-tells t) s move (upright-deeds _ _ s)
       (λ e. record { acts = acted-use s move; plain = not-toxic move.number (ap (λ (m : Move). may_poison_by m.effect) (sym same) ∙ e) }) (λ e. knows-used s move same h)))
 

@@ -8,6 +8,7 @@ use Rattle.gen1_stats.specs.Members.{is_living, IsTeam, Member}
 use Rattle.gen1_machine.specs.declared.side.Side.{Side}
 use Rattle.gen1_machine.specs.declared.side.Side.TheVariants.{One, Two}
 use Rattle.gen1_machine.specs.declared.choice.Choice.{Choice}
+use Rattle.gen1_machine.specs.declared.choice.Choice.TheVariants as choices
 use Rattle.gen1_machine.specs.declared.terms.Outcome.{Outcome}
 use Rattle.gen1_machine.specs.declared.terms.Outcome.TheVariants as outcomes
 use Rattle.gen1_machine.specs.declared.terms.Request.{Request}
@@ -19,7 +20,7 @@ use Rattle.gen1_machine.specs.State.{changed_member, fallen, first_state, has_fa
 use Rattle.gen1_machine.specs.Progress.{has_fallen, note, on_field, ◌▸◌, Progress}
 use Rattle.gen1_machine.specs.Ruling.{ruling_of, Ruling}
 use Rattle.gen1_machine.specs.Falls.{ask_for_moves, ask_for_switches, ask_nothing, battle_ends, close, end_if_decided, faint_if_fallen, faint_in_order, settle, switch_if, the_fallen_faint}
-use Rattle.gen1_machine.specs.SwitchingIn.{replace, start}
+use Rattle.gen1_machine.specs.SwitchingIn.{replace, send_if_chosen, send_out, start, switch_event}
 use Rattle.gen1_machine.specs.OfferedChoices.{offered_for}
 use Rattle.gen1_machine.specs.Step.{answered, close_update, events_of, is_among, offers, opened, run, run_by, step, step_by, update, update_for, Stepped}
 use Rattle.gen1_machine.specs.Action.{keeps_going}
@@ -38,33 +39,32 @@ use Rattle.gen1_player.specs.declared.public_side.PublicSide.{PublicSide}
 use Rattle.gen1_player.specs.Public.{acting, hears_all, is_going_on, may_go_on, new_uses, settled_by}
 use Rattle.gen1_player.specs.True.{is_fault, ActivesAgree, SideDoes, BothDo, IsTold}
 use Rattle.gen1_player.proofs.Conditions.{conditions_agree}
-use Rattle.gen1_player.proofs.Facts.{is_dull, Fits, Sizes}
-use Rattle.gen1_player.proofs.Stories.{begun-member, Begun, MayFall, Now}
-use Rattle.gen1_player.proofs.ToldTurns.{replace-falls, send_out-tells, ChoiceFits}
+use Rattle.gen1_player.proofs.Facts.{is_dull, sent, Fits, Sizes}
+use Rattle.gen1_player.proofs.Stories.{at_end, begun-member, Begun}
+use Rattle.gen1_player.proofs.ToldTurns.{fits-now, send_out-at, sent-begun, ChoiceFits}
 use Rattle.gen1_player.proofs.ToldEnds.{first-done, Fresh, choice-fits, sizes_of}
-use Rattle.gen1_player.proofs.Deeds.{even-apart, even-member, Deeds, Does, Even, current_of}
-use Rattle.gen1_player.proofs.DeedStory.{deeding, fallen-tame, tale-apart, tale-dull, tale-member, told_by, Tale}
-use Rattle.gen1_player.proofs.DeedGate.{at-field, at-note, at-stop, at-told, at-weak, dull-tale, tale-past, In, Nothing_more}
-use Rattle.gen1_player.proofs.DeedActs.{nothing-lasts}
+use Rattle.gen1_player.proofs.Deeds.{loosely-apart, loosely-even, loosely-falls, loosely-quiet, Deeds, Lame, Loosely, current_of}
+use Rattle.gen1_player.proofs.DeedStory.{deeding, loose-told, tale-loosens, told_by, LooseTale, Tale}
+use Rattle.gen1_player.proofs.DeedGate.{at-field, at-note, at-stop, at-told, at-weak, In, Nothing_more}
 use Rattle.gen1_player.proofs.DeedMoves.{plain_story}
-use Rattle.gen1_player.proofs.DeedTurns.{may-settling, now-settling, plain-switches, turn-deeds, Settling}
+use Rattle.gen1_player.proofs.DeedTurns.{loose-sent, loose-settling, plain-switches, turn-deeds, Settling}
 
 -- States of the end of an update
 
 abbrev Set : Field → List Event → Type 0
-Set f es = Even f (settled_by 0 (told_by es))
+Set f es = Loosely f (settled_by 0 (told_by es))
 
 abbrev pub Told : Field → List Event → Type 0
-Told f es = Tale Nothing_more f es ⊎ (is_fault f.outcome ≡ true)
+Told f es = LooseTale f es ⊎ (is_fault f.outcome ≡ true)
 
 abbrev First : Side → Field → List Event → Type 0
-First u f es = Tale Nothing_more f es ⊎ (Set f es × (has_fallen_in u f ≡ false))
+First u f es = LooseTale f es ⊎ (Set f es × (has_fallen_in u f ≡ false))
 
 abbrev Fainted : Field → List Event → Type 0
-Fainted f es = Tale Nothing_more f es ⊎ (Set f es × (has_fallen_in One f ≡ false) × (has_fallen_in Two f ≡ false))
+Fainted f es = LooseTale f es ⊎ (Set f es × (has_fallen_in One f ≡ false) × (has_fallen_in Two f ≡ false))
 
-tale-set : (f : Field) (es : List Event) → Tale Nothing_more f es → Set f es
-tale-set f es m = (tale-past false One f es m).even
+tale-set : (f : Field) (es : List Event) → LooseTale f es → Set f es
+tale-set f es m = loosely-quiet 0 f (told_by es) m.quiet m.loosely
 
 fainted-set : (f : Field) (es : List Event) → Fainted f es → Set f es
 fainted-set f es (inl m) = tale-set f es m
@@ -87,19 +87,19 @@ module _ {n : Sizes} {pre : List Event} {S : Progress → Type 0} where
   unfolding faint_if_fallen
   set-faints u = watching.choose-sees (has_fallen u)
       (before-leads (λ p m. m.0) (at-told (changed_member u fallen) (λ f. events.Faint (who_in u f)) (begun-member u fallen)
-      (λ f es o m. inl (dull-tale 0 _ es _ refl refl (even-member u fallen fallen-tame f _ m)))))
+      (λ f es o m. inl (loose-told _ es _ refl refl (loosely-falls u f _ o m)))))
       (after-leads (λ p m. record { begun = m.0.begun; is = inr (m.0.is, m.1) }) stay-tells)
 
-  tale-faints : (u : Side) → Leads (In n pre (Tale Nothing_more)) (In n pre (Tale Nothing_more)) S (faint_if_fallen u)
+  tale-faints : (u : Side) → Leads (In n pre LooseTale) (In n pre LooseTale) S (faint_if_fallen u)
   unfolding faint_if_fallen
   tale-faints u = choose-tells _ (at-told (changed_member u fallen) (λ f. events.Faint (who_in u f)) (begun-member u fallen)
-      (λ f es o m. tale-dull nothing-lasts _ _ refl es (tale-member nothing-lasts u fallen fallen-tame f es m))) stay-tells
+      (λ f es o m. loose-told _ es _ refl refl (loosely-falls u f _ o (tale-set f es m)))) stay-tells
 
   rest-faints : (u : Side) → Leads (In n pre (λ f es. Set f es × (has_fallen_in (other u) f ≡ false))) (In n pre Fainted) S (faint_if_fallen u)
   unfolding faint_if_fallen
   rest-faints u = watching.choose-sees (has_fallen u)
       (before-leads (λ p m. m.0) (at-told (changed_member u fallen) (λ f. events.Faint (who_in u f)) (begun-member u fallen)
-      (λ f es o m. inl (dull-tale 0 _ es _ refl refl (even-member u fallen fallen-tame f _ m.0)))))
+      (λ f es o m. inl (loose-told _ es _ refl refl (loosely-falls u f _ o m.0)))))
       (after-leads (λ p m. record { begun = m.0.begun; is = let k = both-fallen u p.field m.0.is.1 m.1 in inr (m.0.is.0, k.0, k.1) }) stay-tells)
 
   faints-deeds : Leads (In n pre Set) (In n pre Fainted) S the_fallen_faint
@@ -141,12 +141,12 @@ usual {n} {pre} x o e f m = record { begun = m.begun; is = by m.is }
 
 module _ {n : Sizes} {pre : List Event} where
   set-field : {S : Progress → Type 0} (change : Field → Field) → ((f : Field) → (f.one ≡ (change f).one) × (f.two ≡ (change f).two)) → Leads (In n pre Set) (In n pre Set) S (on_field change)
-  set-field change h = at-field change (λ f b. same-begun f (change f) (h f).0 (h f).1 b) (λ f es o m. even-apart f (change f) _ (h f).0 (h f).1 m)
+  set-field change h = at-field change (λ f b. same-begun f (change f) (h f).0 (h f).1 b) (λ f es o m. loosely-apart f (change f) _ (h f).0 (h f).1 m)
 
   ends-deeds : {Q : Progress → Type 0} (o : Outcome) (event : Event) → is_dull event ≡ true → acting event ≡ 0 → Leads (In n pre Set) Q (In n pre Told) (battle_ends o event)
   unfolding battle_ends ask_nothing
   ends-deeds o event d a = set-field (with_outcome o) (outcome-sides o) ⊳ set-field (with_requests requests.Pass requests.Pass) (request-sides requests.Pass requests.Pass)
-      ⊳ at-note {L = Told} (λ f. event) (λ f es k m. inl (dull-tale 0 f es event a d m)) ⊳ at-stop (λ f es m. m)
+      ⊳ at-note {L = Told} (λ f. event) (λ f es k m. inl (loose-told f es event a d m)) ⊳ at-stop (λ f es m. m)
 
   decided-deeds : (r : Ruling) → Leads (In n pre Fainted) (In n pre Fainted) (In n pre Told) (end_if_decided r)
   unfolding end_if_decided
@@ -160,20 +160,20 @@ module _ {n : Sizes} {pre : List Event} where
   moves-deeds = set-field with_next_turn turn-sides
       ⊳ at-told (with_requests requests.Move requests.Move) (λ f. events.Turn f.turn)
       (λ f b. same-begun f _ (request-sides requests.Move requests.Move f).0 (request-sides requests.Move requests.Move f).1 b)
-      (λ f es o m. inl (dull-tale 0 _ es _ refl refl (even-apart f _ _ (request-sides requests.Move requests.Move f).0 (request-sides requests.Move requests.Move f).1 m)))
+      (λ f es o m. inl (loose-told _ es _ refl refl (loosely-apart f _ _ (request-sides requests.Move requests.Move f).0 (request-sides requests.Move requests.Move f).1 m)))
 
-  asked : (a b : Request) → {S : Progress → Type 0} → Leads (In n pre (Tale Nothing_more)) (In n pre Told) S (on_field (with_requests a b))
+  asked : (a b : Request) → {S : Progress → Type 0} → Leads (In n pre LooseTale) (In n pre Told) S (on_field (with_requests a b))
   asked a b = at-field (with_requests a b) (λ f k. same-begun f _ (request-sides a b f).0 (request-sides a b f).1 k)
-      (λ f es o m. inl (tale-apart nothing-lasts f _ es (request-sides a b f).0 (request-sides a b f).1 m))
+      (λ f es o m. inl (record { loosely = loosely-apart f _ _ (request-sides a b f).0 (request-sides a b f).1 m.loosely; quiet = m.quiet }))
 
-  switches-deeds : {S : Progress → Type 0} → Leads (In n pre (Tale Nothing_more)) (In n pre Told) S ask_for_switches
+  switches-deeds : {S : Progress → Type 0} → Leads (In n pre LooseTale) (In n pre Told) S ask_for_switches
   unfolding ask_for_switches
   switches-deeds = given-tells _ (λ one. given-tells _ (λ two. asked (switch_if one) (switch_if two)))
 
-  fallen-tale : (p : Progress) → In n pre Fainted p × ((has_fallen One p || has_fallen Two p) ≡ true) → In n pre (Tale Nothing_more) p
+  fallen-tale : (p : Progress) → In n pre Fainted p × ((has_fallen One p || has_fallen Two p) ≡ true) → In n pre LooseTale p
   fallen-tale p m = record { begun = m.0.begun; is = by m.0.is }
     where
-      by : Fainted p.field (pre ++ p.events) → Tale Nothing_more p.field (pre ++ p.events)
+      by : Fainted p.field (pre ++ p.events) → LooseTale p.field (pre ++ p.events)
       by (inl k) = k
       by (inr k) = absurd (or-neither (has_fallen One p) (has_fallen Two p) k.1 k.2 m.1)
 
@@ -257,42 +257,56 @@ pub landed : {P : Progress → Type 0} (q : Progress) → Lands P P q → P q
 landed q (Runs r m) = m
 landed q (Rests r m) = m
 
+pub tightened-tale : (f : Field) (es : List Event) → ((s : Side) → is_living (member_in s f) ≡ true) → LooseTale f es → Tale Nothing_more f es
+tightened-tale f es l m = record { even = loosely-even f (told_by es) (l One) (l Two) m.loosely; quiet = m.quiet; more = tt }
+
 module _ {n : Sizes} {pre : List Event} where
-  starts-deeds : (f : Field) → Begun n f → (p : Progress) → p.stopped ≡ false → Now plain_story n pre p → In n pre Settling (start p)
+  -- A member that comes out
+  sends-deeds : (s : Side) (place : ℕ) → Fits n s place → Leads (In n pre LooseTale) (In n pre LooseTale) (In n pre LooseTale) (send_out s place)
+  sends-deeds s place fits = record {
+    leads = λ p r m.
+        let high = fits-now n p.field s place m.begun.sized fits in
+        let event : Event = switch_event s place (sent s place p.field) in
+        subst (λ (x : Progress). Lands (In n pre LooseTale) (In n pre LooseTale) x) (sym (send_out-at s place p r)) (Runs r (record {
+          begun = sent-begun n s place p.field fits.0 high m.begun;
+          is = at_end LooseTale (sent s place p.field) pre p.events event (loose-sent s place p.field (pre ++ p.events) fits.0 high m.is);
+        }));
+  }
+
+  sends_if-deeds : (s : Side) (c : Choice) → ChoiceFits n s c → Leads (In n pre LooseTale) (In n pre LooseTale) (In n pre LooseTale) (send_if_chosen s c)
+  unfolding send_if_chosen
+  sends_if-deeds s (choices.Switch place) fits = sends-deeds s place fits
+  sends_if-deeds s _ fits = stay-tells
+
+  starts-deeds : (f : Field) → Begun n f → (p : Progress) → p.stopped ≡ false → In n pre LooseTale p → In n pre Settling (start p)
   unfolding start
-  starts-deeds f b p i m = now-settling (start p) (landed {P = Now plain_story n pre} (start p)
-      ((send_out-tells plain-switches One 1 (first-fits f b One) ⊳ send_out-tells plain-switches Two 1 (first-fits f b Two)).leads p i m))
+  starts-deeds f b p i m = loose-settling (start p) (landed {P = In n pre LooseTale} (start p)
+      ((sends-deeds One 1 (first-fits f b One) ⊳ sends-deeds Two 1 (first-fits f b Two)).leads p i m))
 
-  replaces-deeds : (x y : Choice) → ChoiceFits n One x → ChoiceFits n Two y → (p : Progress) → p.stopped ≡ false → MayFall plain_story n pre p → In n pre Settling (replace x y p)
-  replaces-deeds x y a b p i m = may-settling (replace x y p) (landed {P = MayFall plain_story n pre} (replace x y p) ((replace-falls plain-switches x y a b).leads p i m))
-
-  now-of : (p : Progress) → Begun n p.field → Tale Nothing_more p.field (pre ++ p.events) → Now plain_story n pre p
-  unfolding deeding
-  now-of p b m = record { begun = b; exact = m }
-
-  may-of : (p : Progress) → Begun n p.field → Tale Nothing_more p.field (pre ++ p.events) → MayFall plain_story n pre p
-  unfolding deeding
-  may-of p b m = record { begun = b; loose = m }
+  replaces-deeds : (x y : Choice) → ChoiceFits n One x → ChoiceFits n Two y → (p : Progress) → p.stopped ≡ false → In n pre LooseTale p → In n pre Settling (replace x y p)
+  unfolding replace
+  replaces-deeds x y a b p i m = loose-settling (replace x y p) (landed {P = In n pre LooseTale} (replace x y p) ((sends_if-deeds One x a ⊳ sends_if-deeds Two y b).leads p i m))
 
   turns-deeds : (s : State) (x y : Choice) → IsState s → is_over s.field.outcome ≡ false → requests.Move ≡ s.field.request_one
       → is_among x (offered_for requests.Move One s.field) ≡ true → is_among y (offered_for requests.Move Two s.field) ≡ true
-      → ChoiceFits n One x → ChoiceFits n Two y → Begun n s.field → Tale Nothing_more s.field (pre ++ [])
+      → ChoiceFits n One x → ChoiceFits n Two y → Begun n s.field → LooseTale s.field (pre ++ [])
       → In n pre Settling (update_for (ruling_of s.terms) requests.Move requests.Move x y (opened s))
   unfolding update_for
   turns-deeds s x y h over e a b c d k m =
       let is = started-of s h e in
+      let live = asked-lives s.terms s.field _ _ refl refl e (going-on s.field.outcome s.terms s.field over is.requests) in
       landed {P = In n pre Settling} _ (turn-deeds s.terms x y (opened s) refl
-      (record { begun = k; is = record { tale = m; lives = asked-lives s.terms s.field _ _ refl refl e (going-on s.field.outcome s.terms s.field over is.requests) } })
+      (record { begun = k; is = record { tale = tightened-tale s.field _ live m; lives = live } })
       (opened-sure s h.seed is.field) (offered-fits One x s.field is.field a) (offered-fits Two y s.field is.field b) c d)
 
   updates-deeds : (s : State) (x y : Choice) (q r : Request) → q ≡ s.field.request_one → r ≡ s.field.request_two → IsState s → is_over s.field.outcome ≡ false
       → is_among x (offered_for q One s.field) ≡ true → is_among y (offered_for r Two s.field) ≡ true
-      → ChoiceFits n One x → ChoiceFits n Two y → Begun n s.field → Tale Nothing_more s.field (pre ++ [])
+      → ChoiceFits n One x → ChoiceFits n Two y → Begun n s.field → LooseTale s.field (pre ++ [])
       → In n pre Settling (update_for (ruling_of s.terms) q r x y (opened s))
   unfolding update_for
   updates-deeds s x y requests.Move requests.Move e g h over a b c d k m = turns-deeds s x y h over e a b c d k m
-  updates-deeds s x y requests.Pass requests.Pass e g h over a b c d k m = starts-deeds s.field k (opened s) refl (now-of (opened s) k m)
-  updates-deeds s x y _ _ e g h over a b c d k m = replaces-deeds x y c d (opened s) refl (may-of (opened s) k m)
+  updates-deeds s x y requests.Pass requests.Pass e g h over a b c d k m = starts-deeds s.field k (opened s) refl (record { begun = k; is = m })
+  updates-deeds s x y _ _ e g h over a b c d k m = replaces-deeds x y c d (opened s) refl (record { begun = k; is = m })
 
 -- Between two updates
 
@@ -324,7 +338,7 @@ module _ {n : Sizes} where
   opens-deeds : (pre : List Event) (s : State) (x y : Choice) → Fresh plain_story n pre s.field [] → s.field.request_one ≡ requests.Pass → s.field.request_two ≡ requests.Pass → 1 ≤ n.one → 1 ≤ n.two
       → let p : Progress = update (ruling_of s.terms) x y (opened s) in In n pre Told p
   unfolding deeding
-  opens-deeds pre s x y m a b c d = let w = first-done plain-switches (ruling_of s.terms) x y (opened s) refl m a b c d in record { begun = w.may.begun; is = inl w.may.loose }
+  opens-deeds pre s x y m a b c d = let w = first-done plain-switches (ruling_of s.terms) x y (opened s) refl m a b c d in record { begun = w.may.begun; is = inl (tale-loosens _ _ w.may.loose) }
 
   accepted-deeds : (pre : List Event) (s : State) (x y : Choice) → IsState s → is_over s.field.outcome ≡ false → offers s One x ≡ true → offers s Two y ≡ true → Ready n pre s.field
       → let p : Progress = update (ruling_of s.terms) x y (opened s) in In n pre Told p
@@ -406,10 +420,10 @@ both-true a b e h = ap (λ (c : Bool). c && b) e ∙ h
 rage-going : (k : ℕ) (x : PublicSide) → x.announced.rage ≡ 1 → is_going_on k x ≡ true
 rage-going k x e = or-first _ _ (ap (λ (n : ℕ). not (n == 0)) e)
 
-move-going : (x : PublicSide) (t : Party) → Does x t → may_go_on (move_at (current_of t)).effect ≡ true → is_going_on (current_of t) x ≡ true
-move-going x t m e = or-second _ _ (both-true _ _ (same-number x.last_move (current_of t) m.last) e)
+move-going : (x : PublicSide) (t : Party) → x.last_move ≡ current_of t → may_go_on (move_at (current_of t)).effect ≡ true → is_going_on (current_of t) x ≡ true
+move-going x t m e = or-second _ _ (both-true _ _ (same-number x.last_move (current_of t) m) e)
 
-pub keeps-uncounted : (x : PublicSide) (t : Party) → x.announced.rage ≡ bit_of t.active.conditions.underway.rage → Tied t → Does x t
+pub keeps-uncounted : (x : PublicSide) (t : Party) → x.announced.rage ≡ bit_of t.active.conditions.underway.rage → Tied t → x.last_move ≡ current_of t
     → keeps_going t.active.conditions.underway ≡ true → new_uses (current_of t) x ≡ 0
 keeps-uncounted x t rage r m e = ap (λ (b : Bool). if b then 0 else 1) (by _ _ _ refl refl refl e)
   where
@@ -422,30 +436,32 @@ keeps-uncounted x t rage r m e = ap (λ (b : Bool). if b then 0 else 1) (by _ _ 
     by false false true i j k o = rage-going (current_of t) x (rage ∙ ap bit_of k)
     by false false false i j k o = absurd (true≢false (sym o))
 
-side-does : (x : PublicSide) (t : Party) → x.announced.rage ≡ bit_of t.active.conditions.underway.rage → Tied t → Does x t → SideDoes x t
+side-does : (x : PublicSide) (t : Party) → x.announced.rage ≡ bit_of t.active.conditions.underway.rage → Tied t → Lame x t → SideDoes x t
 side-does x t rage r m = record {
-  uses = keeps-uncounted x t rage r m;
+  uses = keeps-uncounted x t rage r m.last;
   recharge = λ e. let c = r.recharge e in subst (λ (k : ℕ). recharges (move_at k).effect ≡ true) (sym m.last) c;
-  bide = ap (λ (k : Deeds). k.bide) m.same;
-  charging = ap (λ (k : Deeds). k.charging) m.same;
-  toxic = ap (λ (k : Deeds). k.toxic) m.same;
+  bide = ap (λ (k : Deeds). k.bide) m.but;
+  charging = ap (λ (k : Deeds). k.charging) m.but;
+  toxic = ap (λ (k : Deeds). k.toxic) m.but;
+  toxic_count = λ e. ap (λ (k : Deeds). k.toxic_count) (m.same e);
   invulnerable = m.reach;
+  unused = ap (λ (k : Deeds). k.unused) m.but;
   rests = m.rests;
   last_move = m.last;
 }
 
-tale-does : (f : Field) (es : List Event) → IsTold (told_by es) f → ((u : Side) → Tied (party u f)) → Tale Nothing_more f es → BothDo (told_by es) f
+tale-does : (f : Field) (es : List Event) → IsTold (told_by es) f → ((u : Side) → Tied (party u f)) → LooseTale f es → BothDo (told_by es) f
 tale-does f es k r m = record {
-  one = side-does _ f.one k.0.rage (r One) m.even.one;
-  two = side-does _ f.two k.1.rage (r Two) m.even.two;
+  one = side-does _ f.one k.0.rage (r One) m.loosely.one;
+  two = side-does _ f.two k.1.rage (r Two) m.loosely.two;
   may_hit_itself = m.quiet;
 }
 
 ready-does : {n : Sizes} (pre : List Event) (f : Field) → IsTold (told_by pre) f → ((u : Side) → Tied (party u f)) → Ready n pre f → is_fault f.outcome ≡ false → BothDo (told_by pre) f
 unfolding deeding
-ready-does pre f k r (Goes b (inl m)) e = tale-does f pre k r (subst (Tale Nothing_more f) (append-nil pre) m)
+ready-does pre f k r (Goes b (inl m)) e = tale-does f pre k r (subst (LooseTale f) (append-nil pre) m)
 ready-does pre f k r (Goes b (inr m)) e = absurd (true≢false (sym m ∙ e))
-ready-does pre f k r (Opens m a c d l) e = tale-does f pre k r (subst (Tale Nothing_more f) (append-nil pre) m.exact)
+ready-does pre f k r (Opens m a c d l) e = tale-does f pre k r (subst (LooseTale f) (append-nil pre) (tale-loosens _ _ m.exact))
 
 pub first-ready : (t : Terms) (one two : List Member) (seed : List ℕ) → IsTeam one → IsTeam two → Ready (sizes_of one two) [] (first_state t one two seed).field
 unfolding hears_all deeding

@@ -22,11 +22,11 @@ use Rattle.gen1_machine.specs.EarlyEffects.{with_levelled_stats}
 use Rattle.gen1_machine.proofs.Showing.{BothOut}
 use Rattle.gen1_player.specs.declared.public.Public.{Public}
 use Rattle.gen1_player.specs.declared.public_side.PublicSide.{PublicSide}
-use Rattle.gen1_player.specs.Public.{acting, first_public, gets_status, hears_all, is_afflicted, is_cleared, on_announced, on_out, on_seen, public_side, set_volatile, settled, takes_in, takes_types}
+use Rattle.gen1_player.specs.Public.{acting, first_public, gets_status, hears_all, is_afflicted, is_cleared, on_announced, on_out, on_seen, public_side, set_volatile, settled, settled_by, takes_in, takes_types}
 use Rattle.gen1_player.proofs.Facts.{followed, is_dull, noted, sparing-tame, starts-marks, with_cleared, Dull, Followed, Marks, Placid, Starts, Tame}
 use Rattle.gen1_player.proofs.Stories.{Story, sickened, slept}
 use Rattle.gen1_player.proofs.HeardSides.{clear-hears, end-hears, foe-side, hears-in, hears_all-last, out-side, quiet-side, settled-look, start-hears, starts-begins, types-hears, rest-hears}
-use Rattle.gen1_player.proofs.Deeds.{calm-bland, Bland, core_of, deeds, deeds_of, does-in, dull-fades, dull-quiet, even-active, even-apart, even-conditions, even-fades, even-member, even-party, even-quiet, pending-out, placed-in, with_active, with_conditions, Deeds, Does, Even}
+use Rattle.gen1_player.proofs.Deeds.{calm-bland, Bland, core_of, deeds, deeds_of, does-in, dull-fades, dull-quiet, even-active, even-apart, even-conditions, even-fades, even-member, even-party, even-loosely, even-quiet, loosely-fades, pending-out, placed-in, with_active, with_conditions, Deeds, Does, Even, Loosely}
 
 abbrev pub told_by : List Event → Public
 told_by es = hears_all es first_public
@@ -40,6 +40,14 @@ pub record Tale (U : Public → Type 0) (f : Field) (es : List Event) : Type 0 w
   pub even : Even f (told_by es)
   pub quiet : (told_by es).may_hit_itself ≡ 0
   pub more : U (told_by es)
+
+-- A member that has fallen may have worse poison than was told.
+pub record LooseTale (f : Field) (es : List Event) : Type 0 where
+  pub loosely : Loosely f (told_by es)
+  pub quiet : (told_by es).may_hit_itself ≡ 0
+
+pub tale-loosens : {U : Public → Type 0} (f : Field) (es : List Event) → Tale U f es → LooseTale f es
+tale-loosens f es m = record { loosely = even-loosely f (told_by es) m.even; quiet = m.quiet }
 
 -- Volatiles
 
@@ -138,7 +146,7 @@ abbrev cleared_party : Party → Party
 cleared_party t = with_conditions after_haze (with_active (with_levelled_stats t.active) t)
 
 abbrev without_poison : Deeds → Deeds
-without_poison k = record k { toxic = 0 }
+without_poison k = record k { toxic = 0; toxic_count = 0 }
 
 does-cleared : (x : PublicSide) (t : Party) → Does x t → Does (is_cleared x) (cleared_party t)
 unfolding after_haze with_levelled_stats
@@ -157,9 +165,9 @@ even-cleared f p o m =
     }
 
 does-poisoned : (b : Bool) (x : PublicSide) (t : Party) → Does x t
-    → Does (on_announced (λ a. if b then record a { toxic = 1 } else a) (on_seen (is_afflicted kinds.Poison) x)) (if b then with_conditions with_bad_poison t else t)
+    → Does (on_announced (λ a. if b then record a { toxic = 1; toxic_count = 0 } else a) (on_seen (is_afflicted kinds.Poison) x)) (if b then with_conditions with_bad_poison t else t)
 unfolding with_bad_poison
-does-poisoned true x t m = record { same = ap (λ (k : Deeds). record k { toxic = 1 }) m.same; reach = m.reach; rests = m.rests; last = m.last; few = m.few }
+does-poisoned true x t m = record { same = ap (λ (k : Deeds). record k { toxic = 1; toxic_count = 0 }) m.same; reach = m.reach; rests = m.rests; last = m.last; few = m.few }
 does-poisoned false x t m = record { same = m.same; reach = m.reach; rests = m.rests; last = m.last; few = m.few }
 
 poisons-one : (b : Bool) (f : Field) → (if b then changed_conditions One with_bad_poison f else f) ≡ with_party One (if b then with_conditions with_bad_poison f.one else f.one) f
@@ -204,6 +212,17 @@ pub tells-next : (U : Public → Type 0) (g : Field) (es : List Event) (e : Even
 tells-next U g es e a b c =
     let same : takes_in e (settled e (told_by es)) ≡ told_by (es ++ e ∷ []) = sym (hears_all-last es e first_public ∙ hears-in e (told_by es)) in
     record { even = subst (Even g) same a; quiet = subst (λ (p : Public). p.may_hit_itself ≡ 0) same b; more = subst U same c }
+
+-- A dull event in which nobody acts.
+pub loose-told : (g : Field) (es : List Event) (e : Event) → acting e ≡ 0 → is_dull e ≡ true → Loosely g (settled_by 0 (told_by es)) → LooseTale g (es ++ e ∷ [])
+unfolding settled
+loose-told g es e a d m =
+    let q : Public = settled_by 0 (told_by es) in
+    let same : takes_in e (settled e (told_by es)) ≡ told_by (es ++ e ∷ []) = sym (hears_all-last es e first_public ∙ hears-in e (told_by es)) in
+    record {
+      loosely = subst (Loosely g) same (subst (λ (i : ℕ). Loosely g (takes_in e (settled_by i (told_by es)))) (sym a) (loosely-fades g q (takes_in e q) (λ u. dull-fades e d u q) m));
+      quiet = subst (λ (p : Public). p.may_hit_itself ≡ 0) same (subst (λ (i : ℕ). (takes_in e (settled_by i (told_by es))).may_hit_itself ≡ 0) (sym a) (dull-quiet e d q refl));
+    }
 
 last-out : (s u : Side) (h : PublicSide → PublicSide) (p : Public) → ((x : PublicSide) → (h x).last_move ≡ x.last_move) → (public_side u (on_out s h p)).last_move ≡ (public_side u p).last_move
 last-out s u h p e = quiet-side (λ (x : PublicSide). x.last_move) s u h p e
@@ -338,7 +357,7 @@ deeding U l = record {
   said = λ s move. ⊥;
   acted = λ s move. (p : Public) → U p → (public_side s p).last_move ≡ move.number;
   knows = λ s move. (bides move.effect ≡ false) × (recharges move.effect ≡ true → (p : Public) → U p → recharges (move_at (public_side s p).last_move).effect ≡ true);
-  lulled = λ s marked. Unit {0};
+  lulled = λ s turns marked. Unit {0};
   upright = λ s. Unit {0};
   loosen = λ f es m. m;
   tighten = λ f es m a b. m;

@@ -1,12 +1,13 @@
 -- What active members do, through a turn.
-use Rattle.std.proofs.Common.{[], Bool, List, ap, arith, false, if◌then◌else◌, inl, inr, is_some, length, nat_le, not, refl, subst, suc, sym, true, true≢false, zero, ℕ, ◌&&◌, ◌+◌, ◌++◌, ◌∙◌, ◌∷◌, ◌≡◌, ◌≤◌, ◌⊎◌, ◌||◌}
-use Rattle.std.proofs.lemmas.Bool.{le-leb}
+use Rattle.std.proofs.Common.{[], Bool, List, None, Option, Some, ap, arith, false, if◌then◌else◌, inl, inr, is_some, length, max, nat_le, nat_lt, not, refl, subst, suc, sym, true, true≢false, zero, ℕ, ◌&&◌, ◌*◌, ◌+◌, ◌++◌, ◌/◌, ◌<◌, ◌∙◌, ◌∷◌, ◌≡◌, ◌≢◌, ◌≤◌, ◌⊎◌, ◌||◌}
+use Rattle.std.proofs.lemmas.Bool.{le-leb, lt-ltb}
+use Rattle.std.proofs.Math.Nat.{mul-pos}
 use Rattle.gen1_tables.specs.declared.effect.Effect.{Effect}
 use Rattle.gen1_tables.specs.declared.effect.Effect.TheVariants as effects
 use Rattle.gen1_rolls.specs.Streams.{byte_at, Stream}
 use Rattle.gen1_stats.specs.declared.status.Status.{Status}
 use Rattle.gen1_stats.specs.declared.status.Status.TheVariants.{Burned, Poisoned}
-use Rattle.gen1_stats.specs.Members.{is_living, sleeps_or_freezes}
+use Rattle.gen1_stats.specs.Members.{is_living, sleeps_or_freezes, Member}
 use Rattle.gen1_machine.specs.declared.side.Side.{Side}
 use Rattle.gen1_machine.specs.declared.side.Side.TheVariants.{One, Two}
 use Rattle.gen1_machine.specs.declared.choice.Choice.{Choice}
@@ -24,10 +25,11 @@ use Rattle.gen1_machine.specs.declared.picks.UsedMove.TheVariants.{Struggle}
 use Rattle.gen1_machine.specs.Health.{Health}
 use Rattle.gen1_machine.specs.Picks.{must_continue, number_in, pick_in}
 use Rattle.gen1_machine.specs.Sides.{other}
-use Rattle.gen1_machine.specs.Conditions.{with_worse_poison, without_flinch, without_trapping, ActiveConditions, Underway}
-use Rattle.gen1_machine.specs.State.{active_in, changed_active, changed_conditions, changed_member, healed_by, health_in, hurt_by, is_over, member_at, member_in, party, status_in, underway_in, who_in, with_picked_move, Field, Party, Terms}
+use Rattle.gen1_machine.specs.Numbers.{side_number}
+use Rattle.gen1_machine.specs.Conditions.{one_more, with_worse_poison, without_flinch, without_trapping, ActiveConditions, Underway}
+use Rattle.gen1_machine.specs.State.{active_in, changed_active, changed_conditions, changed_member, conditions_in, healed_by, health_in, hurt_by, is_over, member_at, member_in, party, status_in, underway_in, who_in, with_picked_move, Field, Party, Terms}
 use Rattle.gen1_machine.specs.Progress.{draw, gain_hp, given, has_fallen, lose_hp, on_action, on_active, on_conditions, Action, Phase, Progress}
-use Rattle.gen1_machine.specs.ResidualDamage.{drained_by, residual, suffer, suffer_seed, suffer_status, worsen}
+use Rattle.gen1_machine.specs.ResidualDamage.{drained_by, residual, residual_in, suffer, suffer_seed, suffer_status, times_poisoned, worsen}
 use Rattle.gen1_machine.specs.Ruling.{ruling_of}
 use Rattle.gen1_machine.specs.Action.{begin}
 use Rattle.gen1_machine.specs.SwitchingIn.{switch_event, with_sent_out}
@@ -43,21 +45,22 @@ use Rattle.gen1_machine.proofs.SoundWalk.{conditions-spared}
 use Rattle.gen1_machine.proofs.Acts.{begin-keeps}
 use Rattle.gen1_machine.proofs.Fitting.{free-plain, Fits}
 use Rattle.gen1_machine.proofs.ValidTurns.{act_part, both-plan_of, both-planned, both_plan, send_part, set_picked-keeps, suffers_part, with_plan-other, Sure}
-use Rattle.gen1_machine.proofs.Watching.{after-leads, before-leads, choose-tells, given-tells, stay-tells, ◌⊳◌, Lands, Leads, Rests, Runs}
+use Rattle.gen1_machine.proofs.Showing.{keeps-member, BothOut}
+use Rattle.gen1_machine.proofs.Watching.{after-leads, before-leads, choose-sees, choose-tells, given-sees, given-tells, stay-tells, ◌⊳◌, Lands, Leads, Rests, Runs}
 use Rattle.gen1_machine.proofs.Watching as watching
 use Rattle.gen1_player.specs.declared.public.Public.{Public}
 use Rattle.gen1_player.specs.declared.public_side.PublicSide.{PublicSide}
-use Rattle.gen1_player.specs.Public.{comes_out, on_public_side, settled, settled_by, takes_in}
+use Rattle.gen1_player.specs.Public.{comes_out, first_public, on_public_side, settled, settled_by, takes_in}
 use Rattle.gen1_player.specs.True.{is_fault}
-use Rattle.gen1_player.proofs.Facts.{followed, fresh, is_dull, is_own_damage, sent, sent-standing, side_out, standing, worse-calm, Sizes, Standing}
+use Rattle.gen1_player.proofs.Facts.{followed, fresh, is_dull, is_residual, sent, sent-standing, side_out, standing, Sizes, Standing}
 use Rattle.gen1_player.proofs.Facts as facts
 use Rattle.gen1_player.proofs.Stories.{begun-active, begun-member, Begun, MayFall, Now, Switching}
-use Rattle.gen1_player.proofs.HeardSides.{switch-hears}
+use Rattle.gen1_player.proofs.HeardSides.{hears-in, hears_all-last, switch-hears}
 use Rattle.gen1_player.proofs.ToldActions.{begin-tells}
-use Rattle.gen1_player.proofs.ToldTurns.{fits-now, or-left, or-right, residual-tells, send_out-tells, ChoiceFits}
-use Rattle.gen1_player.proofs.Deeds.{calm-bland, core, deeds_of, does-conditions, even-conditions, even-member, with_active, Bland, Does, Even}
-use Rattle.gen1_player.proofs.DeedStory.{deeding, even-before, quiet-settled, tale-active, tale-conditions, tells-next, told_by, Tale}
-use Rattle.gen1_player.proofs.DeedGate.{at-conditions, at-field, at-told, at-weak, dull-tale, opens-past, tale-opens, tale-past, In, Nothing_more, Opens, Over, Past}
+use Rattle.gen1_player.proofs.ToldTurns.{fits-now, or-left, or-right, send_out-tells, ChoiceFits}
+use Rattle.gen1_player.proofs.Deeds.{core, deeds, deeds_of, does-conditions, does-lame, even-conditions, even-hurt, even-loosely, even-member, even-quiet, hurt_to, lame-conditions, loosely-even, loosely-quiet, loosely-worse, pending-out, quiet-loosely, with_active, Bland, Deeds, Does, Even, Loosely}
+use Rattle.gen1_player.proofs.DeedStory.{deeding, even-before, quiet-settled, tale-active, tale-conditions, tells-next, told_by, LooseTale, Tale}
+use Rattle.gen1_player.proofs.DeedGate.{acted-tale, at-conditions, at-field, at-told, at-weak, dull-tale, opens-past, tale-opens, tale-past, zero-not, In, Nothing_more, Opens, Over, Past}
 use Rattle.gen1_player.proofs.DeedActs.{nothing-lasts, rests-leads, with-keeps, IdleIsQuiet}
 use Rattle.gen1_player.proofs.DeedMoves.{act-deeds, plain_story}
 
@@ -72,16 +75,16 @@ out-if c x y e = ap (λ (d : Bool). if d then x else y) e
 pub comes-is : (species place level : ℕ) (h : Health) (x : PublicSide) → 1 ≤ place → place ≤ 6 → comes_out species place level h x ≡ side_out species place level h x
 comes-is species place level h x low high = out-if (nat_le 1 place && nat_le place 6) (side_out species place level h x) x (and-true (nat_le 1 place) (nat_le place 6) (le-leb 1 place low) (le-leb place 6 high))
 
-does-sent : (species place level : ℕ) (h : Health) (x : PublicSide) (t : Party) → 1 ≤ place → place ≤ length t.members → Does x t
+does-sent : (species place level : ℕ) (h : Health) (x : PublicSide) (t : Party) → 1 ≤ place → place ≤ length t.members → length t.members ≤ 6 → x.unused ≡ 0
     → Does (comes_out species place level h x) (with_active (with_sent_out place (member_at place t) t.active) t)
-does-sent species place level h x t low high m =
+does-sent species place level h x t low high few none =
     let e : standing (with_sent_out place (member_at place t) t.active) ≡ standing (fresh place (member_at place t)) = sent-standing place (member_at place t) t.active in
-    subst (λ (y : PublicSide). Does y (with_active (with_sent_out place (member_at place t) t.active) t)) (sym (comes-is species place level h x low (omega (arith, high, m.few)))) (record {
-      same = sym (ap (λ (a : Standing). deeds_of a.place (core a.conditions)) e);
+    subst (λ (y : PublicSide). Does y (with_active (with_sent_out place (member_at place t) t.active) t)) (sym (comes-is species place level h x low (omega (arith, high, few)))) (record {
+      same = ap (λ (i : ℕ). record (deeds (side_out species place level h x)) { unused = i }) none ∙ sym (ap (λ (a : Standing). deeds_of a.place (core a.conditions)) e);
       reach = λ i. absurd (i refl);
       rests = λ i. absurd (i refl);
       last = sym (ap (λ (a : Standing). number_in a.current_move (member_at a.place t).moves) e);
-      few = m.few;
+      few = few;
     })
 
 trapping-bland : Bland without_trapping
@@ -96,12 +99,12 @@ even-sent : (s : Side) (place : ℕ) (f : Field) (p : Public) (species level : �
     → Even (sent s place f) (on_public_side s (comes_out species place level h) p)
 unfolding changed_active changed_conditions
 even-sent One place f p species level h low high m = record {
-  one = does-sent species place level h p.one f.one low high m.one;
+  one = does-sent species place level h p.one f.one low high m.one.few (ap (λ (k : Deeds). k.unused) m.one.same);
   two = does-conditions without_trapping trapping-bland p.two f.two m.two;
 }
 even-sent Two place f p species level h low high m = record {
   one = does-conditions without_trapping trapping-bland p.one f.one m.one;
-  two = does-sent species place level h p.two f.two low high m.two;
+  two = does-sent species place level h p.two f.two low high m.two.few (ap (λ (k : Deeds). k.unused) m.two.same);
 }
 
 tale-sent : (s : Side) (place : ℕ) (f : Field) (es : List Event) → 1 ≤ place → place ≤ length (party s f).members → Tale Nothing_more f es
@@ -115,6 +118,34 @@ tale-sent s place f es low high m =
     tells-next Nothing_more g es e
     (subst (Even g) (sym is) (even-sent s place f q (who_in s g).species (member_in s g).level (health_in s g) low high (even-before e f (told_by es) m.quiet m.even)))
     (subst (λ (p : Public). p.may_hit_itself ≡ 0) (sym is) (pending-side s h q ∙ quiet-settled e (told_by es))) tt
+
+loosely-sent : (s : Side) (place : ℕ) (f : Field) (p : Public) (species level : ℕ) (h : Health) → 1 ≤ place → place ≤ length (party s f).members → Loosely f p
+    → Loosely (sent s place f) (on_public_side s (comes_out species place level h) p)
+unfolding changed_active changed_conditions
+loosely-sent One place f p species level h low high m = record {
+  one = does-lame _ _ (does-sent species place level h p.one f.one low high m.one.few (ap (λ (k : Deeds). k.unused) m.one.but));
+  two = lame-conditions without_trapping trapping-bland p.two f.two m.two;
+}
+loosely-sent Two place f p species level h low high m = record {
+  one = lame-conditions without_trapping trapping-bland p.one f.one m.one;
+  two = does-lame _ _ (does-sent species place level h p.two f.two low high m.two.few (ap (λ (k : Deeds). k.unused) m.two.but));
+}
+
+pub loose-sent : (s : Side) (place : ℕ) (f : Field) (es : List Event) → 1 ≤ place → place ≤ length (party s f).members → LooseTale f es
+    → LooseTale (sent s place f) (es ++ switch_event s place (sent s place f) ∷ [])
+unfolding settled
+loose-sent s place f es low high m =
+    let g : Field = sent s place f in
+    let e : Event = switch_event s place g in
+    let q : Public = settled e (told_by es) in
+    let h : PublicSide → PublicSide = comes_out (who_in s g).species place (member_in s g).level (health_in s g) in
+    let is : takes_in e q ≡ on_public_side s h q = switch-hears (who_in s g) place (member_in s g).level (health_in s g) q in
+    let same : takes_in e q ≡ told_by (es ++ e ∷ []) = sym (hears_all-last es e first_public ∙ hears-in e (told_by es)) in
+    record {
+      loosely = subst (Loosely g) (sym is ∙ same)
+          (loosely-sent s place f q (who_in s g).species (member_in s g).level (health_in s g) low high (loosely-quiet 0 f (told_by es) m.quiet m.loosely));
+      quiet = subst (λ (p : Public). p.may_hit_itself ≡ 0) (sym is ∙ same) (pending-side s h q ∙ quiet-settled e (told_by es));
+    }
 
 pub plain-switches : Switching plain_story
 unfolding deeding
@@ -147,51 +178,207 @@ joined-leads {P} {Q} {S} {K} {L} {f} h k = record { leads = λ p r m. both (f p)
 past-conditions : (b : Bool) (u s : Side) (change : ActiveConditions → ActiveConditions) → Bland change → (f : Field) (es : List Event) → Past b u f es → Past b u (changed_conditions s change f) es
 past-conditions b u s change h f es m = record { even = even-conditions s change h f _ m.even; first = m.first }
 
-module _ {n : Sizes} {pre : List Event} {S : Progress → Type 0} (b : Bool) (u : Side) where
-  past-loses : (s : Side) (source : DamageSource) → is_own_damage source ≡ false → (amount : ℕ) → Leads (In n pre (Past b u)) (In n pre (Past b u)) S (lose_hp s source amount)
-  unfolding lose_hp hurt_by
-  past-loses s source e amount = choose-tells _ (at-told (changed_member s (hurt_by amount)) (λ f. events.Damage (who_in s f) (health_in s f) source) (begun-member s (hurt_by amount))
-      (λ f es o m. tale-past b u _ _ (dull-tale 0 _ es _ refl (ap not e) (even-member s (hurt_by amount) (λ k. refl) f _ m.even)))) stay-tells
+-- What is known of a hit on itself that no event has told of
+pub record Been (R : ℕ → Type 0) (f : Field) (es : List Event) : Type 0 where
+  pub even : Even f (settled_by 0 (told_by es))
+  pub waits : R (told_by es).may_hit_itself
 
-  past-gains : (s : Side) (amount : ℕ) → Leads (In n pre (Past b u)) (In n pre (Past b u)) S (gain_hp s amount)
-  unfolding gain_hp healed_by
-  past-gains s amount = choose-tells _ (at-told (changed_member s (healed_by amount)) (λ f. events.Heal (who_in s f) (health_in s f)) (begun-member s (healed_by amount))
-      (λ f es o m. tale-past b u _ _ (dull-tale 0 _ es _ refl refl (even-member s (healed_by amount) (λ k. refl) f _ m.even)))) stay-tells
+-- A member that has fallen may have worse poison than was told.
+pub record Spent (R : ℕ → Type 0) (f : Field) (es : List Event) : Type 0 where
+  pub loosely : Loosely f (settled_by 0 (told_by es))
+  pub waits : R (told_by es).may_hit_itself
 
-  past-worsens : (s : Side) → Leads (In n pre (Past b u)) (In n pre (Past b u)) S (worsen s)
+-- Poison has become worse, and no event has told so.
+record Ailing (R : ℕ → Type 0) (s : Side) (f : Field) (es : List Event) : Type 0 where
+  before : Field
+  been : Been R before es
+  is : changed_conditions s with_worse_poison before ≡ f
+
+abbrev Lives : Side → Field → Type 0
+Lives s f = is_living (member_in s f) ≡ true
+
+abbrev Lately : (ℕ → Type 0) → Side → Field → List Event → Type 0
+Lately R s f es = Been R f es ⊎ (Ailing R s f es × (is_living (member_in s f) ≡ false))
+
+out-before : (s : Side) (f : Field) → BothOut (changed_conditions s with_worse_poison f) → BothOut f
+unfolding changed_active changed_conditions
+out-before One f o = record { one = record { placed = o.one.placed; within = o.one.within }; two = o.two }
+out-before Two f o = record { one = o.one; two = record { placed = o.two.placed; within = o.two.within } }
+
+lives-worse : (s : Side) (f : Field) → Lives s f → Lives s (changed_conditions s with_worse_poison f)
+unfolding changed_active changed_conditions
+lives-worse One f l = l
+lives-worse Two f l = l
+
+heals-worse : (s : Side) (change : Member → Member) (f : Field)
+    → changed_conditions s with_worse_poison (changed_member (other s) change f) ≡ changed_member (other s) change (changed_conditions s with_worse_poison f)
+unfolding changed_active changed_conditions changed_member
+heals-worse One change f = refl
+heals-worse Two change f = refl
+
+other-kept : (s : Side) (change : Member → Member) (f : Field) → member_in s (changed_member (other s) change f) ≡ member_in s f
+unfolding changed_member
+other-kept One change f = refl
+other-kept Two change f = refl
+
+-- The amount is not 0.
+times-positive : (o : Option ℕ) → 0 < times_poisoned (one_more o)
+times-positive None = omega arith
+times-positive (Some n) = omega arith
+
+worse-positive : (s : Side) (f : Field) → 0 < residual_in s (changed_conditions s with_worse_poison f)
+unfolding changed_active changed_conditions with_worse_poison
+worse-positive One f = mul-pos (omega arith) (times-positive f.one.active.conditions.bad_poison)
+worse-positive Two f = mul-pos (omega arith) (times-positive f.two.active.conditions.bad_poison)
+
+hurt-tale : (s : Side) (source : DamageSource) → is_residual source ≡ true → (amount : ℕ) (f : Field) (es : List Event) → BothOut f → Even f (settled_by 0 (told_by es))
+    → let g : Field = changed_member s (hurt_by amount) (changed_conditions s with_worse_poison f) in Tale Nothing_more g (es ++ events.Damage (who_in s g) (health_in s g) source ∷ [])
+unfolding takes_in
+hurt-tale s source r amount f es o m =
+    let g : Field = changed_member s (hurt_by amount) (changed_conditions s with_worse_poison f) in
+    let q : Public = settled_by 0 (told_by es) in
+    let h : Health = health_in s g in
+    acted-tale Nothing_more 0 g es (events.Damage (who_in s g) h source) refl (even-hurt s source r h.hp amount f q o m) (pending-out s (hurt_to source h.hp) q) tt
+
+not-both : (a b : Bool) → a ≡ true → b ≡ true → (a && b) ≡ false → ⊥
+not-both true true x y e = true≢false e
+not-both true false x y e = true≢false (sym y)
+not-both false b x y e = true≢false (sym x)
+
+and-second : (a b : Bool) → a ≡ true → (a && b) ≡ false → b ≡ false
+and-second true b x e = e
+and-second false b x e = absurd (true≢false (sym x))
+
+module _ {R : ℕ → Type 0} (free : R 0) where
+  tale-been : (f : Field) (es : List Event) → Tale Nothing_more f es → Been R f es
+  tale-been f es m = record { even = even-quiet 0 f (told_by es) m.quiet m.even; waits = subst R (sym m.quiet) free }
+
+  ails-been : (s : Side) (source : DamageSource) → is_residual source ≡ true → (amount : ℕ) (f : Field) (es : List Event) → BothOut f → Ailing R s f es
+      → let g : Field = changed_member s (hurt_by amount) f in Been R g (es ++ events.Damage (who_in s g) (health_in s g) source ∷ [])
+  ails-been s source r amount f es o m =
+      let g : Field → Field = changed_member s (hurt_by amount) in
+      subst (λ (x : Field). Been R (g x) (es ++ events.Damage (who_in s (g x)) (health_in s (g x)) source ∷ [])) m.is
+      (tale-been _ _ (hurt-tale s source r amount m.before es (out-before s m.before (subst BothOut (sym m.is) o)) m.been.even))
+
+  heals-lately : (s : Side) (amount : ℕ) (f : Field) (es : List Event) → Lately R s f es
+      → let g : Field = changed_member (other s) (healed_by amount) f in Lately R s g (es ++ events.Heal (who_in (other s) g) (health_in (other s) g) ∷ [])
+  unfolding healed_by
+  heals-lately s amount f es (inl m) = inl (tale-been _ _ (dull-tale 0 _ es _ refl refl (even-member (other s) (healed_by amount) (λ k. refl) f _ m.even)))
+  heals-lately s amount f es (inr m) =
+      let h : Field → Field = changed_member (other s) (healed_by amount) in
+      inr (
+        record {
+          before = h m.0.before;
+          been = tale-been _ _ (dull-tale 0 _ es _ refl refl (even-member (other s) (healed_by amount) (λ k. refl) m.0.before _ m.0.been.even));
+          is = heals-worse s (healed_by amount) m.0.before ∙ ap h m.0.is;
+        },
+        ap is_living (other-kept s (healed_by amount) f) ∙ m.1,
+      )
+
+pub been-spent : {R : ℕ → Type 0} (f : Field) (es : List Event) → Been R f es → Spent R f es
+been-spent f es m = record { loosely = even-loosely f _ m.even; waits = m.waits }
+
+lately-spent : {R : ℕ → Type 0} (s : Side) (f : Field) (es : List Event) → Lately R s f es → Spent R f es
+lately-spent s f es (inl m) = been-spent f es m
+lately-spent s f es (inr m) = record {
+  loosely = subst (λ (x : Field). Loosely x (settled_by 0 (told_by es))) m.0.is
+      (loosely-worse s m.0.before _ (ap (λ (x : Field). is_living (member_in s x)) m.0.is ∙ m.1) m.0.been.even);
+  waits = m.0.been.waits;
+}
+
+abbrev Hurts : Sizes → List Event → (ℕ → Type 0) → Side → ℕ → Progress → Type 0
+Hurts n pre R s amount p = In n pre (λ f es. Ailing R s f es × Lives s f) p × (0 < amount)
+
+hurts : {n : Sizes} {pre : List Event} {R : ℕ → Type 0} (s : Side) (amount : ℕ) (p : Progress) → In n pre (λ f es. Ailing R s f es × Lives s f) p × (residual_in s p.field ≡ amount) → Hurts n pre R s amount p
+hurts s amount p m = (m.0, subst (λ (a : ℕ). 0 < a) (ap (residual_in s) m.0.is.0.is ∙ m.1) (worse-positive s m.0.is.0.before))
+
+module _ {n : Sizes} {pre : List Event} {S : Progress → Type 0} {R : ℕ → Type 0} (free : R 0) where
+  -- Poison or a burn
+
+  worsens-living : (s : Side) → Leads (In n pre (λ f es. Been R f es × Lives s f)) (In n pre (λ f es. Ailing R s f es × Lives s f)) S (worsen s)
   unfolding worsen
-  past-worsens s = at-conditions s with_worse_poison (λ f es o m. past-conditions b u s with_worse_poison (calm-bland with_worse_poison worse-calm) f es m)
+  worsens-living s = at-conditions s with_worse_poison (λ f es o m. (record { before = f; been = m.0; is = refl }, lives-worse s f m.1))
 
-  past-suffers : (s : Side) (status : Status) → Leads (In n pre (Past b u)) (In n pre (Past b u)) S (suffer_status s status)
-  unfolding suffer_status suffer
-  past-suffers s Poisoned = past-worsens s ⊳ given-tells _ (past-loses s sources.Poison refl)
-  past-suffers s Burned = past-worsens s ⊳ given-tells _ (past-loses s sources.Burn refl)
-  past-suffers s _ = stay-tells
+  loses-living : (s : Side) (source : DamageSource) → is_residual source ≡ true → (amount : ℕ) → Leads (Hurts n pre R s amount) (In n pre (Been R)) S (lose_hp s source amount)
+  unfolding lose_hp
+  loses-living s source r amount = choose-sees _
+      (before-leads (λ p m. m.0.0) (at-told {K = λ f es. Ailing R s f es × Lives s f} {L = Been R} (changed_member s (hurt_by amount)) (λ f. events.Damage (who_in s f) (health_in s f) source) (begun-member s (hurt_by amount))
+      (λ f es o m. ails-been free s source r amount f es o m.0)))
+      (before-leads (λ p m. absurd (not-both _ _ (lt-ltb 0 amount m.0.1) m.0.0.is.1 m.1)) stay-tells)
 
-  past-residual : (s : Side) → Leads (In n pre (Past b u)) (In n pre (Past b u)) S (residual s)
-  unfolding residual suffer_seed drained_by
-  past-residual s = choose-tells _ (given-tells _ (past-suffers s)
-      ⊳ choose-tells _ (past-worsens s ⊳ given-tells _ (λ amount. past-loses s sources.LeechSeed refl amount ⊳ past-gains (other s) amount)) stay-tells) stay-tells
+  suffers-living : (s : Side) (source : DamageSource) → is_residual source ≡ true → Leads (In n pre (λ f es. Been R f es × Lives s f)) (In n pre (Been R)) S (suffer s source)
+  unfolding suffer
+  suffers-living s source r = worsens-living s ⊳ given-sees (λ p. residual_in s p.field) (λ amount. before-leads (hurts s amount) (loses-living s source r amount))
+
+  status-been : (s : Side) (status : Status) → Leads (In n pre (λ f es. Been R f es × Lives s f)) (In n pre (Been R)) S (suffer_status s status)
+  unfolding suffer_status
+  status-been s Poisoned = suffers-living s sources.Poison refl
+  status-been s Burned = suffers-living s sources.Burn refl
+  status-been s _ = before-leads (at-weak (λ f es m. m.0)) stay-tells
+
+  -- Leech Seed, also of a member that has just fallen
+
+  worsens-been : (s : Side) → Leads (In n pre (Been R)) (In n pre (Ailing R s)) S (worsen s)
+  unfolding worsen
+  worsens-been s = at-conditions s with_worse_poison (λ f es o m. record { before = f; been = m; is = refl })
+
+  loses-been : (s : Side) (amount : ℕ) → Leads (λ p. In n pre (Ailing R s) p × (0 < amount)) (In n pre (Lately R s)) S (lose_hp s sources.LeechSeed amount)
+  unfolding lose_hp
+  loses-been s amount = choose-sees _
+      (before-leads (λ p m. m.0.0) (at-told {K = Ailing R s} {L = Lately R s} (changed_member s (hurt_by amount)) (λ f. events.Damage (who_in s f) (health_in s f) sources.LeechSeed) (begun-member s (hurt_by amount))
+      (λ f es o m. inl (ails-been free s sources.LeechSeed refl amount f es o m))))
+      (before-leads {Q = In n pre (Lately R s)} (λ p m. record { begun = m.0.0.begun; is = inr (m.0.0.is, and-second _ _ (lt-ltb 0 amount m.0.1) m.1) }) stay-tells)
+
+  gains-lately : (s : Side) (amount : ℕ) → Leads (In n pre (Lately R s)) (In n pre (Lately R s)) S (gain_hp (other s) amount)
+  unfolding gain_hp
+  gains-lately s amount = choose-tells _ (at-told (changed_member (other s) (healed_by amount)) (λ f. events.Heal (who_in (other s) f) (health_in (other s) f)) (begun-member (other s) (healed_by amount))
+      (λ f es o m. heals-lately free s amount f es m)) stay-tells
+
+  seeds-been : (s : Side) → Leads (In n pre (Been R)) (In n pre (Spent R)) S (suffer_seed s)
+  unfolding suffer_seed drained_by
+  seeds-been s = worsens-been s ⊳ given-sees (λ p. residual_in s p.field) (λ amount. before-leads
+      (λ p m. (m.0, subst (λ (a : ℕ). 0 < a) (ap (residual_in s) m.0.is.is ∙ m.1) (worse-positive s m.0.is.before)))
+      (loses-been s amount ⊳ after-leads (at-weak (lately-spent s)) (gains-lately s amount)))
+
+  pub residual-been : (s : Side) → Leads (In n pre (Been R)) (In n pre (Spent R)) S (residual s)
+  unfolding residual
+  residual-been s = choose-sees _
+      (before-leads (λ p m. record { begun = m.0.begun; is = (m.0.is, m.1) }) (given-tells _ (status-been s) ⊳ choose-tells _ (seeds-been s) (after-leads (at-weak been-spent) stay-tells)))
+      (before-leads (λ p m. m.0) (after-leads (at-weak been-spent) stay-tells))
+
+-- After an act of side u: b says whether it was the first.
+abbrev pub Free : Bool → Side → ℕ → Type 0
+Free b u k = b ≡ true → k ≢ side_number (other u)
+
+-- After a switch nobody may have hit itself.
+abbrev pub Silent : ℕ → Type 0
+Silent k = k ≡ 0
 
 -- The end of a turn
 
 abbrev pub Settling : Field → List Event → Type 0
-Settling f es = Even f (settled_by 0 (told_by es)) ⊎ (is_fault f.outcome ≡ true)
+Settling f es = Loosely f (settled_by 0 (told_by es)) ⊎ (is_fault f.outcome ≡ true)
 
 pub over-settling : (b : Bool) (s : Side) (f : Field) (es : List Event) → Over b s f es → Settling f es
-over-settling b s f es (inl m) = inl m.even
+over-settling b s f es (inl m) = inl (even-loosely f _ m.even)
 over-settling b s f es (inr m) = inr m
 
 pub past-settling : (b : Bool) (s : Side) (f : Field) (es : List Event) → Past b s f es → Settling f es
-past-settling b s f es m = inl m.even
+past-settling b s f es m = inl (even-loosely f _ m.even)
+
+pub spent-settling : {R : ℕ → Type 0} (f : Field) (es : List Event) → Spent R f es → Settling f es
+spent-settling f es m = inl m.loosely
 
 pub now-settling : {n : Sizes} {pre : List Event} (p : Progress) → Now plain_story n pre p → In n pre Settling p
 unfolding deeding
-now-settling p m = record { begun = m.begun; is = inl (tale-past false One p.field _ m.exact).even }
+now-settling p m = record { begun = m.begun; is = inl (even-loosely p.field _ (tale-past false One p.field _ m.exact).even) }
 
 pub may-settling : {n : Sizes} {pre : List Event} (p : Progress) → MayFall plain_story n pre p → In n pre Settling p
 unfolding deeding
-may-settling p m = record { begun = m.begun; is = inl (tale-past false One p.field _ m.loose).even }
+may-settling p m = record { begun = m.begun; is = inl (even-loosely p.field _ (tale-past false One p.field _ m.loose).even) }
+
+pub loose-settling : {n : Sizes} {pre : List Event} (p : Progress) → In n pre LooseTale p → In n pre Settling p
+loose-settling p m = record { begun = m.begun; is = inl (loosely-quiet 0 p.field _ m.is.quiet m.is.loosely) }
 
 faults-over : (o : Outcome) → is_over o ≡ false → is_fault o ≡ true → ⊥
 faults-over (outcomes.Fault k) e h = true≢false e
@@ -217,6 +404,20 @@ uncut-past {n} {pre} b s p e m = record { begun = m.begun; is = by m.is }
     by : Over b s p.field (pre ++ p.events) → Past b s p.field (pre ++ p.events)
     by (inl k) = k
     by (inr k) = absurd (faults-over p.field.outcome (uncut-over p e) k)
+
+pub uncut-spent : {n : Sizes} {pre : List Event} (b : Bool) (s : Side) (p : Progress) → is_cut p ≡ false → In n pre (Spent (Free b s)) p → In n pre (Past b s) p
+uncut-spent b s p e m = record { begun = m.begun; is = record { even = loosely-even p.field _ (uncut-lives One p e) (uncut-lives Two p e) m.is.loosely; first = m.is.waits } }
+
+pub uncut-now : {n : Sizes} {pre : List Event} (p : Progress) → is_cut p ≡ false → In n pre (Spent Silent) p → Now plain_story n pre p
+unfolding deeding
+uncut-now {n} {pre} p e m = record {
+  begun = m.begun;
+  exact = record {
+    even = loosely-even p.field _ (uncut-lives One p e) (uncut-lives Two p e) (quiet-loosely 0 p.field (told_by (pre ++ p.events)) m.is.waits m.is.loosely);
+    quiet = m.is.waits;
+    more = tt;
+  };
+}
 
 -- The other side's act follows.
 pub next-opens : {n : Sizes} {pre : List Event} (s : Side) (p : Progress) → is_cut p ≡ false → In n pre (Past true s) p → In n pre (Opens false (other s)) p
@@ -261,16 +462,16 @@ module _ (t : Terms) {n : Sizes} {pre : List Event} where
       (choose-tells _ (at-conditions One without_trapping (λ f es o m. past-conditions b s One without_trapping trapping-bland f es m)) stay-tells
       ⊳ choose-tells _ (at-conditions Two without_trapping (λ f es o m. past-conditions b s Two without_trapping trapping-bland f es m)) stay-tells)
 
-  pub suffers-part : {S : Progress → Type 0} (b : Bool) (u s : Side) → Leads (In n pre (Past b u)) (In n pre (Past b u)) S (do_part (ruling_of t) (Suffers s))
+  pub suffers-part : {S : Progress → Type 0} (b : Bool) (u s : Side) → Leads (In n pre (Past b u)) (In n pre (Spent (Free b u))) S (do_part (ruling_of t) (Suffers s))
   unfolding do_part
-  suffers-part b u s = past-residual b u s
+  suffers-part b u s = before-leads (at-weak (λ f es m. record { even = m.even; waits = m.first })) (residual-been {R = Free b u} (λ h e. zero-not (other u) e) s)
 
   -- The last act of a turn
   last-act : (plan : Side → Plan) (b : Bool) (s : Side) (pick : Pick) → FitsPick pick (plan s) → IdleIsQuiet pick (plan s)
       → Leads (λ p. In n pre (Opens b s) p × Planned t plan p) (Ends n pre) (Ends n pre) (do_parts (ruling_of t) (Acts s pick ∷ Suffers s ∷ []))
   last-act plan b s pick fits idle = then-part t {W = In n pre (Over b s)} (Acts s pick) (Suffers s ∷ []) (after-leads (λ p m. m.0) (act-part plan b s pick fits idle)) (at-weak (λ f es m. over-settling b s f es m))
-      (then-part t {W = In n pre (Past b s)} (Suffers s) [] (before-leads (λ p m. uncut-past b s p m.1 m.0) (suffers-part b s s)) (at-weak (λ f es m. past-settling b s f es m))
-      (before-leads (λ p m. m.0) (ends-deeds b s)))
+      (then-part t {W = In n pre (Spent (Free b s))} (Suffers s) [] (before-leads (λ p m. uncut-past b s p m.1 m.0) (suffers-part b s s)) (at-weak spent-settling)
+      (before-leads (λ p m. uncut-spent b s p m.1 m.0) (ends-deeds b s)))
 
   both-deeds : (plan : Side → Plan) (one two : Pick) → ((s : Side) → FitsPick (of_side s one two) (plan s)) → ((s : Side) → IdleIsQuiet (of_side s one two) (plan s)) → (s : Side)
       → Leads (λ p. In n pre (Opens true s) p × Planned t plan p) (Ends n pre) (Ends n pre) (do_parts (ruling_of t) (both_act one two s))
@@ -278,9 +479,9 @@ module _ (t : Terms) {n : Sizes} {pre : List Event} where
       let next : Side → Plan = with_plan s Any plan in
       let same : next (other s) ≡ plan (other s) = with_plan-other s Any plan in
       then-part t {W = λ p. In n pre (Over true s) p × Planned t next p} (Acts s (of_side s one two)) _ (act-part plan true s (of_side s one two) (fits s) (idle s)) (λ p m. at-weak (λ f es k. over-settling true s f es k) p m.0)
-      (then-part t {W = λ p. In n pre (Past true s) p × Planned t next p} (Suffers s) _
-      (before-leads (λ p m. (uncut-past true s p m.1 m.0.0, m.0.1)) (with-keeps (suffers-part true s s) (suffers_part t next s))) (λ p m. at-weak (λ f es k. past-settling true s f es k) p m.0)
-      (before-leads (λ p m. (next-opens s p m.1 m.0.0, m.0.1))
+      (then-part t {W = λ p. In n pre (Spent (Free true s)) p × Planned t next p} (Suffers s) _
+      (before-leads (λ p m. (uncut-past true s p m.1 m.0.0, m.0.1)) (with-keeps (suffers-part true s s) (suffers_part t next s))) (λ p m. at-weak spent-settling p m.0)
+      (before-leads (λ p m. (next-opens s p m.1 (uncut-spent true s p m.1 m.0.0), m.0.1))
       (last-act next false (other s) (of_side (other s) one two) (subst (λ (x : Plan). FitsPick (of_side (other s) one two) x) (sym same) (fits (other s)))
       (subst (λ (x : Plan). IdleIsQuiet (of_side (other s) one two) x) (sym same) (idle (other s))))))
 
@@ -290,18 +491,18 @@ module _ (t : Terms) {n : Sizes} {pre : List Event} where
   unfolding do_part
   send-part s place fits = rests-leads may-settling (begin-tells s ⊳ send_out-tells plain-switches s place fits)
 
-  pub hurts-part : (s : Side) → Leads (Now plain_story n pre) (Now plain_story n pre) (Ends n pre) (do_part (ruling_of t) (Suffers s))
-  unfolding do_part
-  hurts-part s = rests-leads may-settling (residual-tells s)
+  pub hurts-part : (s : Side) → Leads (Now plain_story n pre) (In n pre (Spent Silent)) (Ends n pre) (do_part (ruling_of t) (Suffers s))
+  unfolding do_part deeding
+  hurts-part s = before-leads (λ p m. record { begun = m.begun; is = record { even = even-quiet 0 p.field _ m.exact.quiet m.exact.even; waits = m.exact.quiet } }) (residual-been {R = Silent} refl s)
 
   switch-deeds : (plan : Side → Plan) (s : Side) (pick : Pick) (place : ℕ) → FitsPick pick (plan s) → IdleIsQuiet pick (plan s) → plan (other s) ≡ Any → facts.Fits n (other s) place
       → Leads (λ p. Now plain_story n pre p × (Planned t plan p × InRange (other s) place p.field)) (Ends n pre) (Ends n pre) (do_parts (ruling_of t) (switch_then_act s pick place))
   switch-deeds plan s pick place fits idle any room =
       then-part t {W = λ p. Now plain_story n pre p × Planned t plan p} (Sends (other s) place) _
       (with-leads {K = λ f a w. IsPlanned t plan f a w × InRange (other s) place f} (send-part (other s) place room) (send_part t plan (other s) place any)) (λ p m. now-settling p m.0)
-      (then-part t {W = λ p. Now plain_story n pre p × Planned t plan p} (Suffers (other s)) _
-      (before-leads (λ p m. m.0) (with-keeps (hurts-part (other s)) (suffers_part t plan (other s)))) (λ p m. now-settling p m.0)
-      (before-leads (λ p m. (now-opens false s p (uncut-lives s p m.1) m.0.0, m.0.1)) (last-act plan false s pick fits idle)))
+      (then-part t {W = λ p. In n pre (Spent Silent) p × Planned t plan p} (Suffers (other s)) _
+      (before-leads (λ p m. m.0) (with-keeps (hurts-part (other s)) (suffers_part t plan (other s)))) (λ p m. at-weak spent-settling p m.0)
+      (before-leads (λ p m. (now-opens false s p (uncut-lives s p m.1) (uncut-now p m.1 m.0.0), m.0.1)) (last-act plan false s pick fits idle)))
 
   now-ends : {S : Progress → Type 0} → Leads (Now plain_story n pre) (Ends n pre) S (do_parts (ruling_of t) [])
   unfolding deeding
@@ -310,10 +511,10 @@ module _ (t : Terms) {n : Sizes} {pre : List Event} where
   both_switch-deeds : (one two : ℕ) → facts.Fits n One one → facts.Fits n Two two → Leads (Now plain_story n pre) (Ends n pre) (Ends n pre) (do_parts (ruling_of t) (both_switch one two))
   both_switch-deeds one two a c =
       then-part t (Sends One one) _ (send-part One one a) now-settling
-      (then-part t (Suffers One) _ (before-leads (λ p m. m.0) (hurts-part One)) now-settling
-      (then-part t (Sends Two two) _ (before-leads (λ p m. m.0) (send-part Two two c)) now-settling
-      (then-part t (Suffers Two) [] (before-leads (λ p m. m.0) (hurts-part Two)) now-settling
-      (before-leads (λ p m. m.0) now-ends))))
+      (then-part t (Suffers One) _ (before-leads (λ p m. m.0) (hurts-part One)) (at-weak spent-settling)
+      (then-part t (Sends Two two) _ (before-leads (λ p m. uncut-now p m.1 m.0) (send-part Two two c)) now-settling
+      (then-part t (Suffers Two) [] (before-leads (λ p m. m.0) (hurts-part Two)) (at-weak spent-settling)
+      (before-leads (λ p m. uncut-now p m.1 m.0) now-ends))))
 
 -- Picks
 

@@ -13,6 +13,8 @@ use Rattle.gen1_machine.specs.declared.side.Side.{Side}
 use Rattle.gen1_machine.specs.declared.side.Side.TheVariants.{One, Two}
 use Rattle.gen1_machine.specs.declared.event.Volatile.{Volatile}
 use Rattle.gen1_machine.specs.declared.event.Volatile.TheVariants as volatiles
+use Rattle.gen1_machine.specs.declared.event.CantReason.{CantReason}
+use Rattle.gen1_machine.specs.declared.event.CantReason.TheVariants as reasons
 use Rattle.gen1_machine.specs.declared.event.DamageSource.{DamageSource}
 use Rattle.gen1_machine.specs.declared.event.DamageSource.TheVariants as sources
 use Rattle.gen1_machine.specs.declared.health.Kind.{Kind}
@@ -22,7 +24,7 @@ use Rattle.gen1_machine.specs.declared.event.Event.TheVariants as events
 use Rattle.gen1_machine.specs.declared.picks.DisabledSlot.{DisabledSlot}
 use Rattle.gen1_machine.specs.declared.picks.UsedMove.{UsedMove}
 use Rattle.gen1_machine.specs.Sides.{other}
-use Rattle.gen1_machine.specs.Conditions.{after_haze, less_by, one_more, one_turn_less, stored, with_bide_storing, with_worse_poison, Storing, with_confusion_one_less, with_disable_one_less, with_substitute_hurt, without_trapping, ActiveConditions}
+use Rattle.gen1_machine.specs.Conditions.{after_haze, less_by, one_turn_less, stored, with_bide_storing, with_worse_poison, Storing, with_confusion_one_less, with_disable_one_less, with_substitute_hurt, without_trapping, ActiveConditions}
 use Rattle.gen1_machine.specs.State.{Active, Field, changed_active, changed_conditions, health_in, level_stages, member_at, member_in, nobody_out, party, status_in, with_status}
 use Rattle.gen1_machine.specs.EarlyEffects.{with_levelled_stats}
 use Rattle.gen1_machine.specs.CurrentStats.{with_penalty_of}
@@ -66,7 +68,7 @@ pub record Followed : Type 0 where
   pub bide : Bool
   pub charging : Bool
   pub invulnerable : Bool
-  pub toxic : Bool
+  pub poison : Option ℕ  -- the counter of bad poison
 
 abbrev pub followed : ActiveConditions → Followed
 followed c = let u = c.underway in record {
@@ -79,7 +81,7 @@ followed c = let u = c.underway in record {
   bide = is_some u.bide;
   charging = u.charging;
   invulnerable = c.invulnerable;
-  toxic = is_some c.bad_poison;
+  poison = c.bad_poison;
 }
 
 abbrev pub plain_of : Followed → Plain
@@ -138,13 +140,9 @@ substitute-calm damage c = by c.substitute
     by None = refl
     by (Some hp) = refl
 
-pub worse-calm : Calm with_worse_poison
+pub worse-mild : Mild with_worse_poison
 unfolding with_worse_poison
-worse-calm c = by c.bad_poison
-  where
-    by : (o : Option ℕ) → record (followed c) { toxic = is_some (one_more o) } ≡ record (followed c) { toxic = is_some o }
-    by None = refl
-    by (Some n) = refl
+worse-mild c = refl
 
 pub storing-calm : (damage : ℕ) → Calm (with_bide_storing damage)
 unfolding with_bide_storing
@@ -226,9 +224,9 @@ traits_of b = record { species = b.species; level = b.level; max = b.max; moves 
 pub sparing-tame : (change : Member → Member) → Sparing change → Tame change
 sparing-tame change h m = ap traits_of (h m)
 
--- A change after which a member sleeps only if it did before, with the same mark.
+-- A change after which a member sleeps only if it did before, with the same count and mark.
 abbrev pub Restful : (Member → Member) → Type 0
-Restful change = (m : Member) → is_asleep (change m).status ≡ true → (is_asleep m.status ≡ true) × (is_marked (change m).status ≡ is_marked m.status)
+Restful change = (m : Member) → is_asleep (change m).status ≡ true → (change m).status ≡ m.status
 
 pub restful-status : (status : Status) → is_asleep status ≡ false → Restful (with_status status)
 unfolding with_status
@@ -253,9 +251,18 @@ is_noise events.ClearAll = false
 is_noise (events.MustRecharge w) = false
 is_noise _ = true
 
-abbrev pub is_own_damage : DamageSource → Bool
-is_own_damage sources.Confusion = true
-is_own_damage _ = false
+-- Damage that tells more than HP: a hit on itself, and what makes bad poison worse.
+abbrev pub is_telling : DamageSource → Bool
+is_telling sources.Direct = false
+is_telling sources.Recoil = false
+is_telling _ = true
+
+-- What makes bad poison worse.
+abbrev pub is_residual : DamageSource → Bool
+is_residual sources.Poison = true
+is_residual sources.Burn = true
+is_residual sources.LeechSeed = true
+is_residual _ = false
 
 abbrev pub is_poison : Kind → Bool
 is_poison kinds.Poison = true
@@ -268,7 +275,7 @@ is_sleep _ = false
 -- Events that also tell nothing of the conditions that end with an act.
 abbrev pub is_dull : Event → Bool
 is_dull (events.Cant w why) = false
-is_dull (events.Damage w h source) = not (is_own_damage source)
+is_dull (events.Damage w h source) = not (is_telling source)
 is_dull (events.Status w kind) = not (is_poison kind)
 is_dull (events.Activate w volatiles.Confusion) = false
 is_dull event = is_noise event
@@ -282,17 +289,22 @@ is_still (events.Cure w kind) = false
 is_still (events.Faint w) = false
 is_still event = is_dull event
 
--- They name the health of the member that is out, which does not fall asleep, wake up or fall.
+abbrev pub is_doze : CantReason → Bool
+is_doze reasons.Asleep = true
+is_doze _ = false
+
+-- They name the health of the member that is out, which does not fall asleep, sleep on, wake up or fall.
 abbrev pub Noise : Field → Event → Type 0
 Noise f (events.Damage w h source) = h ≡ health_in w.side f
 Noise f (events.Heal w h) = h ≡ health_in w.side f
 Noise f (events.Status w kind) = is_sleep kind ≡ false
 Noise f (events.Cure w kind) = ⊥
 Noise f (events.Faint w) = ⊥
+Noise f (events.Cant w why) = is_doze why ≡ false
 Noise f event = is_noise event ≡ true
 
 abbrev pub Dull : Field → Event → Type 0
-Dull f (events.Damage w h source) = (h ≡ health_in w.side f) × (is_own_damage source ≡ false)
+Dull f (events.Damage w h source) = (h ≡ health_in w.side f) × (is_telling source ≡ false)
 Dull f (events.Heal w h) = h ≡ health_in w.side f
 Dull f (events.Status w kind) = (is_poison kind ≡ false) × (is_sleep kind ≡ false)
 Dull f (events.Cure w kind) = ⊥
@@ -305,6 +317,7 @@ noise-is f (events.Heal w h) n = refl
 noise-is f (events.Status w kind) n = refl
 noise-is f (events.Cure w kind) n = absurd n
 noise-is f (events.Faint w) n = absurd n
+noise-is f (events.Cant w why) n = refl
 noise-is f _ n = n
 
 pub dull-noise : (f : Field) (e : Event) → Dull f e → Noise f e

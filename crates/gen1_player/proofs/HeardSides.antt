@@ -1,5 +1,5 @@
 -- What the log tells of an active member's types and conditions, event by event.
-use Rattle.std.proofs.Common.{[], Bool, List, ap, arith, false, if◌then◌else◌, inl, inr, nat_le, refl, sym, true, true≢false, ℕ, ◌&&◌, ◌++◌, ◌==◌, ◌∙◌, ◌∷◌, ◌≡◌, ◌≢◌, ◌≤◌, ◌⊎◌, subst}
+use Rattle.std.proofs.Common.{[], Bool, List, ap, arith, false, if◌then◌else◌, inl, inr, min, nat_le, refl, sym, true, true≢false, ℕ, ◌&&◌, ◌+◌, ◌++◌, ◌==◌, ◌∙◌, ◌∷◌, ◌≡◌, ◌≢◌, ◌≤◌, ◌⊎◌, subst}
 use Rattle.std.proofs.lemmas.Bool.{le-leb}
 use Rattle.std.proofs.lemmas.Bool.Decides.{eqb_tells}
 use Rattle.gen1_tables.specs.Species.{species_row}
@@ -25,7 +25,7 @@ use Rattle.gen1_machine.specs.Sides.{other}
 use Rattle.gen1_machine.specs.State.{Party}
 use Rattle.gen1_player.specs.declared.public.Public.{Public}
 use Rattle.gen1_player.specs.declared.public_side.PublicSide.{PublicSide}
-use Rattle.gen1_player.specs.Public.{acting, activates, begins, broken_off_if, comes_out, ends_recharging, gets_status, has_fainted, has_hit_itself, hears, hears_all, if_seen_out, is_afflicted, is_cleared, is_cured, is_kept_by, is_overtaken, on_announced, on_out, on_public_side, on_seen, prepares, public_side, recharges_unless, set_volatile, settled, starts_bide, suffers_move, takes_damage, takes_in, takes_types, uses_move}
+use Rattle.gen1_player.specs.Public.{acting, activates, begins, broken_off_if, comes_out, ends_recharging, gets_status, has_fainted, has_hit_itself, hears, hears_all, if_seen_out, is_afflicted, is_cleared, is_cured, is_kept, is_overtaken, on_announced, on_out, on_public_side, on_seen, prepares, public_side, recharges_unless, set_volatile, settled, starts_bide, suffers_move, takes_damage, takes_in, takes_types, uses_move}
 use Rattle.gen1_player.proofs.Facts.{side_out, is_noise, marked, plain, standing, Plain, Standing, Starts}
 
 -- What the log tells of a side's types and conditions. A flag is 1 or 0.
@@ -143,18 +143,25 @@ foe-side Two h p = refl
 
 -- Announcements that tell nothing of these
 
-kept-heard : (why : CantReason) (x : PublicSide) → heard (on_announced (is_kept_by why) x) ≡ heard x
+kept-heard : (why : CantReason) (x : PublicSide) → heard (is_kept why x) ≡ heard x
 kept-heard reasons.Flinched x = refl
 kept-heard reasons.Recharging x = refl
 kept-heard reasons.Disabled x = refl
 kept-heard reasons.Paralysed x = refl
 kept-heard _ x = refl
 
+worse-heard : (b : Bool) (x : PublicSide) → heard (on_announced (λ a. if b then a else record a { toxic_count = min 64 (a.toxic_count + 1) }) x) ≡ heard x
+worse-heard true x = refl
+worse-heard false x = refl
+
 hurt-heard : (source : DamageSource) (x : PublicSide) → heard (takes_damage source x) ≡ heard x
 hurt-heard sources.Confusion x = refl
+hurt-heard sources.Poison x = worse-heard (x.announced.toxic == 0) x
+hurt-heard sources.Burn x = worse-heard (x.announced.toxic == 0) x
+hurt-heard sources.LeechSeed x = worse-heard (x.announced.toxic == 0) x
 hurt-heard _ x = refl
 
-poison-heard : (b : Bool) (x : PublicSide) → heard (on_announced (λ a. if b then record a { toxic = 1 } else a) x) ≡ heard x
+poison-heard : (b : Bool) (x : PublicSide) → heard (on_announced (λ a. if b then record a { toxic = 1; toxic_count = 0 } else a) x) ≡ heard x
 poison-heard true x = refl
 poison-heard false x = refl
 
@@ -182,7 +189,7 @@ unfolding takes_in
 noise-heard (events.Turn i) h u p = same-sides heard u (record p { turn = i }) p refl refl
 noise-heard (events.Switch w place level k) h u p = absurd (true≢false (sym h))
 noise-heard (events.Move w move foe) h u p = absurd (true≢false (sym h))
-noise-heard (events.Cant w why) h u p = quiet-side heard w.side u (on_announced (is_kept_by why)) p (kept-heard why)
+noise-heard (events.Cant w why) h u p = quiet-side heard w.side u (is_kept why) p (kept-heard why)
 noise-heard (events.Damage w k source) h u p = quiet-side heard w.side u (λ x. takes_damage source (on_seen (λ m. record m { hp = k.hp }) x)) p (λ x. hurt-heard source (on_seen (λ m. record m { hp = k.hp }) x))
 noise-heard (events.Heal w k) h u p = quiet-side heard w.side u (on_seen (λ m. record m { hp = k.hp })) p (λ x. refl)
 noise-heard (events.Status w kind) h u p = quiet-side heard w.side u
@@ -360,18 +367,25 @@ less-same u p q a b e = subst (λ (i : ℕ). i ≢ 0) (same-sides (λ (x : Publi
 pub settled-less : (e : Event) (u : Side) (p : Public) → Less (public_side u (settled e p)) (public_side u p)
 settled-less e u p h = subst (λ (i : ℕ). i ≢ 0) (settled-look (λ (x : PublicSide). x.announced.recharging) e u p (λ x. refl)) h
 
-kept-less : (why : CantReason) (x : PublicSide) → Less (on_announced (is_kept_by why) x) x
+kept-less : (why : CantReason) (x : PublicSide) → Less (is_kept why x) x
 kept-less reasons.Flinched x e = absurd (e refl)
 kept-less reasons.Recharging x e = absurd (e refl)
 kept-less reasons.Disabled x e = e
 kept-less reasons.Paralysed x e = e
 kept-less _ x e = e
 
+worse-less : (b : Bool) (x : PublicSide) → Less (on_announced (λ a. if b then a else record a { toxic_count = min 64 (a.toxic_count + 1) }) x) x
+worse-less true x e = e
+worse-less false x e = e
+
 hurt-less : (source : DamageSource) (x : PublicSide) → Less (takes_damage source x) x
 hurt-less sources.Confusion x e = e
+hurt-less sources.Poison x e = worse-less (x.announced.toxic == 0) x e
+hurt-less sources.Burn x e = worse-less (x.announced.toxic == 0) x e
+hurt-less sources.LeechSeed x e = worse-less (x.announced.toxic == 0) x e
 hurt-less _ x e = e
 
-poison-less : (b : Bool) (x : PublicSide) → Less (on_announced (λ a. if b then record a { toxic = 1 } else a) x) x
+poison-less : (b : Bool) (x : PublicSide) → Less (on_announced (λ a. if b then record a { toxic = 1; toxic_count = 0 } else a) x) x
 poison-less true x e = e
 poison-less false x e = e
 
@@ -385,7 +399,7 @@ unfolding takes_in
 noise-less (events.Turn i) h u p = less-same u (record p { turn = i }) p refl refl
 noise-less (events.Switch w place level k) h u p = absurd (true≢false (sym h))
 noise-less (events.Move w move foe) h u p = absurd (true≢false (sym h))
-noise-less (events.Cant w why) h u p = less-side w.side u (on_announced (is_kept_by why)) p (kept-less why)
+noise-less (events.Cant w why) h u p = less-side w.side u (is_kept why) p (kept-less why)
 noise-less (events.Damage w k source) h u p = less-side w.side u (λ x. takes_damage source (on_seen (λ m. record m { hp = k.hp }) x)) p (λ x. hurt-less source (on_seen (λ m. record m { hp = k.hp }) x))
 noise-less (events.Heal w k) h u p = less-side w.side u (on_seen (λ m. record m { hp = k.hp })) p (λ x e. e)
 noise-less (events.Status w kind) h u p = less-side w.side u

@@ -22,7 +22,7 @@ use Rattle.gen1_player.specs.declared.public.Public.{Public}
 use Rattle.gen1_player.specs.declared.public_side.PublicSide.{PublicSide}
 use Rattle.gen1_player.specs.declared.seen.Seen.{Seen}
 use Rattle.gen1_player.specs.Player.{known_at}
-use Rattle.gen1_player.specs.Public.{asleep_after, bide, charges_up, comes_out, drops, ends_recharging, gets_status, has_fainted, hears, hears_all, if_seen_out, is_afflicted, is_cured, is_kept_by, is_overtaken, new_uses, not_seen, on_announced, on_seen, prepares, public_side, recharges_unless, rests_no_more, rises, seen_at, set_volatile, starts_bide, strikes, suffers_move, takes_damage, takes_types, uses_again, uses_move}
+use Rattle.gen1_player.specs.Public.{asleep_after, bide, charges_up, comes_out, drops, ends_recharging, gets_status, has_fainted, hears, hears_all, if_seen_out, is_afflicted, is_cured, is_kept_by, is_overtaken, new_uses, not_seen, on_announced, on_seen, prepares, public_side, recharges_unless, rests_no_more, rises, seen_at, set_volatile, starts_bide, strikes, suffers_move, takes_damage, takes_types, uses_again, uses_move, is_kept, slept_after, slept_on, sleeps_on}
 use Rattle.gen1_player.specs.Sides.{foe_hears, side_begins, side_hears}
 use Rattle.gen1_player.specs.True.{members_by, own_as_known, own_known, own_places}
 use Rattle.gen1_player.proofs.Facts.{side_out}
@@ -134,16 +134,16 @@ seen-eye l x g h o e =
     let back : slice_set l.places k r ≡ l.places = ap (λ (p : ℕ). slice_set l.places k p) (sym o.at) ∙ set-get_or l.places k 0 in
     ap (λ (ms : List Seen). record (eye l x) { members = ms }) (all ∙ ap (map after) back)
 
-abbrev pub with_status_by : (ℕ → ℕ) → (ℕ → ℕ) → Seen → Seen
-with_status_by c a m = record m { status = c m.status; asleep_by = a m.asleep_by }
+abbrev pub with_status_by : (ℕ → ℕ) → (ℕ → ℕ) → (ℕ → ℕ) → Seen → Seen
+with_status_by c a d m = record m { status = c m.status; asleep_by = a m.asleep_by; slept = d m.slept }
 
 -- What a lens does to the active member, and that it sees whether there is one.
 pub record Sees (l : Lens) (place : ℕ) (members : List Seen) : Type 0 where
   pub none : l.number 0 ≡ 0
   pub some : place ≢ 0 → l.number place ≢ 0
   pub out : place ≢ 0 → Out l place members
-  pub status : place ≢ 0 → (c a : ℕ → ℕ) → let m : Seen = slice_index_or members (place - 1) not_seen in
-      with_status_by c a (l.known place m) ≡ l.known place (with_status_by c a m)
+  pub status : place ≢ 0 → (c a d : ℕ → ℕ) → let m : Seen = slice_index_or members (place - 1) not_seen in
+      with_status_by c a d (l.known place m) ≡ l.known place (with_status_by c a d m)
   pub falls : place ≢ 0 → let m : Seen = slice_index_or members (place - 1) not_seen in
       has_fainted (l.known place m) ≡ l.known place (has_fainted m)
   pub moves : place ≢ 0 → (more id : ℕ) → let m : Seen = slice_index_or members (place - 1) not_seen in
@@ -195,14 +195,15 @@ hears-eye l k x foe s (events.Move w move target) q = out-eye l x (uses_move mov
     (λ z. ap strikes
     (seen-eye l (record x { last_move = move }) (uses_again (new_uses move x) move) (uses_again (new_uses move x) move) (s.out z)
     (s.moves z (new_uses move x) move)))
-hears-eye l k x foe s (events.Cant w why) q = announced-eye l x (is_kept_by why) s
+hears-eye l k x foe s (events.Cant w why) q = out-eye l x (is_kept why) (is_kept why) s
+    (λ z. ap (on_announced (is_kept_by why)) (seen-eye l x (sleeps_on why) (sleeps_on why) (s.out z) (s.status z (λ c. c) (λ a. a) (slept_on why))))
 hears-eye l k x foe s (events.Status w kind) q = out-eye l x
     (λ y. on_announced (gets_status kind foe.last_move) (on_seen (is_afflicted kind) y))
     (λ y. on_announced (gets_status kind foe.last_move) (on_seen (is_afflicted kind) y)) s
     (λ z. ap (on_announced (gets_status kind foe.last_move))
-    (seen-eye l x (is_afflicted kind) (is_afflicted kind) (s.out z) (s.status z (λ c. kind_number kind) (asleep_after kind))))
+    (seen-eye l x (is_afflicted kind) (is_afflicted kind) (s.out z) (s.status z (λ c. kind_number kind) (asleep_after kind) (slept_after kind))))
 hears-eye l k x foe s (events.Cure w kind) q = out-eye l x (on_seen is_cured) (on_seen is_cured) s
-    (λ z. seen-eye l x is_cured is_cured (s.out z) (s.status z (λ c. 0) (λ a. 0)))
+    (λ z. seen-eye l x is_cured is_cured (s.out z) (s.status z (λ c. 0) (λ a. 0) (λ d. 0)))
 hears-eye l k x foe s (events.Faint w) q = out-eye l x (on_seen has_fainted) (on_seen has_fainted) s
     (λ z. seen-eye l x has_fainted has_fainted (s.out z) (s.falls z))
 hears-eye l k x foe s (events.Boost w stat n) q = out-eye l x (rises stat n) (rises stat n) s (λ z. refl)
@@ -222,7 +223,7 @@ suffers-eye false l x = refl
 pub overhears-eye : (l : Lens) (x : PublicSide) → Sees l x.place x.members → (e : Event) → foe_hears e (eye l x) ≡ eye l (foe_hears e x)
 overhears-eye l x s (events.Move w move target) =
     out-eye l x (suffers_move move) (suffers_move move) s (λ z. ap (recharges_unless (ends_recharging (move_at move).effect))
-    (seen-eye l x is_overtaken is_overtaken (s.out z) (s.status z (λ c. c) rests_no_more)) ∙ suffers-eye (ends_recharging (move_at move).effect) l (on_seen is_overtaken x))
+    (seen-eye l x is_overtaken is_overtaken (s.out z) (s.status z (λ c. c) rests_no_more (λ d. d))) ∙ suffers-eye (ends_recharging (move_at move).effect) l (on_seen is_overtaken x))
 overhears-eye l x s _ = refl
 
 -- Damage and healing, with HP in another form
@@ -297,7 +298,7 @@ is_switch event = false
 pub hears-touches : (x foe : PublicSide) (e : Event) → is_switch e ≡ false → TouchesTo x (side_hears e foe x)
 hears-touches x foe (events.Switch w place level h) q = absurd (true≢false q)
 hears-touches x foe (events.Move w move target) q = touches-out x (uses_move move) (touches-seen x (uses_again (new_uses move x) move) (λ m. refl))
-hears-touches x foe (events.Cant w why) q = announced-touches x (is_kept_by why)
+hears-touches x foe (events.Cant w why) q = touches-out x (is_kept why) (touches-seen x (sleeps_on why) (λ m. refl))
 hears-touches x foe (events.Damage w h source) q = touches-out x (λ y. takes_damage source (on_seen (λ m. record m { hp = h.hp }) y)) (touches-seen x (λ m. record m { hp = h.hp }) (λ m. refl))
 hears-touches x foe (events.Heal w h) q = touches-out x (on_seen (λ m. record m { hp = h.hp })) (touches-seen x (λ m. record m { hp = h.hp }) (λ m. refl))
 hears-touches x foe (events.Status w kind) q = touches-out x (λ y. on_announced (gets_status kind foe.last_move) (on_seen (is_afflicted kind) y)) (touches-seen x (is_afflicted kind) (λ m. refl))
@@ -366,7 +367,7 @@ own-sees team place ms k = record {
   none = refl;
   some = λ z. z;
   out = own-out team place ms k;
-  status = λ z c a. own-same team place (slice_index_or ms (place - 1) not_seen) (with_status_by c a) (k.out z) refl;
+  status = λ z c a d. own-same team place (slice_index_or ms (place - 1) not_seen) (with_status_by c a d) (k.out z) refl;
   falls = λ z. own-same team place (slice_index_or ms (place - 1) not_seen) has_fainted (k.out z) refl;
   moves = λ z more id. own-same team place (slice_index_or ms (place - 1) not_seen) (uses_again more id) (k.out z) refl;
 }

@@ -1,4 +1,6 @@
 -- After any run, a member that has appeared is the member at its place, and it was seen to use its own moves or Struggle.
+use Rattle.gen1_machine.specs.declared.event.CantReason.TheVariants as reasons
+use Rattle.gen1_player.proofs.ToldGate.{sleep-tame}
 use Rattle.gen1_player.proofs.DeedStory.{status-tame}
 use Rattle.gen1_stats.specs.declared.status.Status.TheVariants.{Asleep}
 use Rattle.std.proofs.Common.{[], Bool, List, ap, if◌then◌else◌, arith, get_or, false, inl, inr, length, length-set, map, nat_le, refl, subst, sym, true, ℕ, true≢false, ◌&&◌, ◌⊎◌, ◌||◌, ◌++◌, ◌-◌, ◌==◌, ◌∙◌, ◌∷◌, ◌≡◌, ◌≢◌, ◌<◌, ◌≤◌}
@@ -25,7 +27,7 @@ use Rattle.gen1_tables.specs.Types.{any}
 use Rattle.gen1_machine.specs.Moves.{move_at, toxic, Move}
 use Rattle.gen1_machine.specs.Sides.{other}
 use Rattle.gen1_machine.specs.Conditions.{after_haze, with_bad_poison, with_bide, with_recharge, without_seed, ActiveConditions}
-use Rattle.gen1_machine.specs.State.{Active, Field, Party, Terms, active_in, changed_active, changed_conditions, changed_member, fallen, first_state, health_in, member_at, member_in, party, who_in, with_current_move, with_pp_spent, with_status, with_types_of}
+use Rattle.gen1_machine.specs.State.{Active, Field, Party, Terms, active_in, changed_active, changed_conditions, changed_member, fallen, first_state, health_in, member_at, member_in, party, who_in, with_current_move, with_pp_spent, with_status, with_types_of, with_sleep_one_less}
 use Rattle.gen1_machine.specs.EarlyEffects.{with_levelled_stats}
 use Rattle.gen1_machine.specs.Picks.{number_in, used_by}
 use Rattle.gen1_machine.specs.Progress.{active, given, member, Progress}
@@ -40,7 +42,7 @@ use Rattle.gen1_player.specs.declared.public_side.PublicSide.{PublicSide}
 use Rattle.gen1_player.specs.Public.{begins, bide, comes_out, first_public, hears_all, new_uses, not_seen, on_announced, seen_at, on_out, prepares, public_side, settled, starts_bide, takes_in, uses_move}
 use Rattle.gen1_player.specs.True.{events_in, public_of, MembersAgree, OfRuns, SideHasAppeared}
 use Rattle.gen1_player.proofs.Facts.{Noise, Sizes, Standing, Tame, Traits, dull-noise, is_noise, noise-is, sent, sent-place, side_out, sparing-tame, traits, with_cleared}
-use Rattle.gen1_player.proofs.Stories.{MayFall, Outline, Story, Switching, sickened, slept}
+use Rattle.gen1_player.proofs.Stories.{MayFall, Outline, Story, Switching, sickened, slept, Dozing}
 use Rattle.gen1_player.proofs.ToldEffects.{ruling_of-tells}
 use Rattle.gen1_player.proofs.ToldActions.{Says, act-tells, carry_out-tells, spent-tame}
 use Rattle.gen1_player.proofs.ToldEnds.{sizes_of, story-runs}
@@ -544,7 +546,7 @@ appearing k U u = record {
   said = λ s move. ((f : Field) → U f → Usable k s move.number f) × (move.effect ≡ (move_at move.number).effect);
   acted = λ s move. Unit {0};
   knows = λ s move. ((f : Field) → U f → Usable k s move.number f) × (move.effect ≡ (move_at move.number).effect);
-  lulled = λ s marked. Unit {0};
+  lulled = λ s turns marked. Unit {0};
   upright = λ s. Unit {0};
   loosen = λ f es m. m;
   tighten = λ f es m a b. m;
@@ -580,6 +582,12 @@ appearing-outline k U u = record {
   noise = λ e f h es m. with-noise u e f h es m;
   acts = λ s move. tt;
   knows = λ s move h. h;
+}
+
+appearing-dozes : (k : Teams) (U : Field → Type 0) (u : Further U) → Dozing (appearing k U u)
+unfolding appearing
+appearing-dozes k U u = record {
+  dozes = λ s turns marked f es o a h m. with-changed u s with_sleep_one_less (sparing-tame with_sleep_one_less sleep-tame) (λ w. events.Cant w reasons.Asleep) (λ w. refl) (λ w p. tt) f es m;
 }
 
 nothing-further : Further (λ f. Unit {0})
@@ -663,7 +671,7 @@ unfolding given appearing
 says k n pre t s pick = record {
   leads = λ p r m.
       let i : ℕ = number_in (used_by pick (active s p).current_move) (member s p).moves in
-      forget k s i n pre _ ((carry_out-tells {v = of_action k s i} {z = n} {pre = pre} (appearing-outline k (Usable k s i) (usable-further k s i)) (ruling_of t) (ruling_of-tells t) s pick (move_taken_in s pick p.field) refl (λ f u. u, refl) (λ u marked. tt) tt).leads p r
+      forget k s i n pre _ ((carry_out-tells {v = of_action k s i} {z = n} {pre = pre} (appearing-outline k (Usable k s i) (usable-further k s i)) (ruling_of t) (ruling_of-tells t) s pick (move_taken_in s pick p.field) refl (λ f u. u, refl) (λ u turns marked. tt) tt).leads p r
       (record { begun = m.begun; exact = record { appears = m.exact.appears; more = taken-usable k s pick p.field (told_by (pre ++ p.events)) m.exact.appears; each = m.exact.each; rest = m.exact.rest } }));
 }
 
@@ -712,8 +720,8 @@ ends : OfRuns Ends
 unfolding hears_all appearing
 ends t one two seed pairs a b =
     let k : Teams = record { one = map traits one; two = map traits two } in
-    story-runs (of_battle k) t one two seed pairs a b (battle-switches k)
-    (λ pre. act-tells (appearing-outline k (λ f. Unit {0}) nothing-further) (ruling_of t) (ruling_of-tells t) (says k (sizes_of one two) pre t)) (record {
+    story-runs (of_battle k) t one two seed pairs a b (appearing-outline k (λ f. Unit {0}) nothing-further) (battle-switches k)
+    (λ pre. act-tells (appearing-outline k (λ f. Unit {0}) nothing-further) (appearing-dozes k (λ f. Unit {0}) nothing-further) (ruling_of t) (ruling_of-tells t) (says k (sizes_of one two) pre t)) (record {
       appears = record { one = first-appeared one a _ refl refl; two = first-appeared two b _ refl refl };
       more = tt;
       each = tt;

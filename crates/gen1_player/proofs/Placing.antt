@@ -14,7 +14,7 @@ use Rattle.gen1_machine.specs.View.{View}
 use Rattle.gen1_machine.proofs.Spectators.{watcher_knows}
 use Rattle.gen1_player.specs.True.{events_in, public_of, AgreesWith, PublicAgrees, PublicAgreesWithView}
 use Rattle.gen1_player.proofs.Facts.{dull-noise, is_noise, noise-is, Sizes, Fits}
-use Rattle.gen1_player.proofs.Stories.{sickened, Outline, Sized, Story, Switching}
+use Rattle.gen1_player.proofs.Stories.{sickened, Outline, Sized, Story, Switching, Dozing}
 use Rattle.gen1_machine.specs.Ruling.{ruling_of}
 use Rattle.gen1_player.proofs.ToldEffects.{ruling_of-tells}
 use Rattle.gen1_player.proofs.ToldActions.{act-tells, says-any}
@@ -80,7 +80,7 @@ placing n = record {
   said = λ s move. Unit {0};
   acted = λ s move. Unit {0};
   knows = λ s move. Unit {0};
-  lulled = λ s marked. Unit {0};
+  lulled = λ s turns marked. Unit {0};
   upright = λ s. Unit {0};
   loosen = λ f es m. m;
   tighten = λ f es m a b. m;
@@ -107,6 +107,10 @@ placing n = record {
   loose_falls = λ s f es o m. placed-last n _ es _ tt (placed-member s _ f es m);
 }
 
+placing-dozes : (n : Sizes) → Dozing (placing n)
+unfolding placing
+placing-dozes n = record { dozes = λ s turns marked f es o a h m. placed-last n _ es _ tt (placed-member s _ f es m) }
+
 placing-outline : (n : Sizes) → Outline (placing n)
 unfolding placing changed_conditions
 placing-outline n = record {
@@ -129,8 +133,8 @@ pub agrees_with_view : PublicAgreesWithView
 unfolding placing
 agrees_with_view t one two seed pairs a b =
     fitting-agrees one two (events_in (run (first_state t one two seed) pairs)) a.size.1 b.size.1
-    (story-runs (placing (sizes_of one two)) t one two seed pairs a b (placing-switches (sizes_of one two)) (λ pre. act-tells (placing-outline (sizes_of one two)) (ruling_of t) (ruling_of-tells t)
-    (says-any (placing-outline (sizes_of one two)) (λ s move. tt) (λ u marked. tt) (λ u. tt) (ruling_of t) (ruling_of-tells t))) (record { sized = record { one = refl; two = refl }; each = tt })).each
+    (story-runs (placing (sizes_of one two)) t one two seed pairs a b (placing-outline (sizes_of one two)) (placing-switches (sizes_of one two)) (λ pre. act-tells (placing-outline (sizes_of one two)) (placing-dozes (sizes_of one two)) (ruling_of t) (ruling_of-tells t)
+    (says-any (placing-outline (sizes_of one two)) (λ s move. tt) (λ u turns marked. tt) (λ u. tt) (ruling_of t) (ruling_of-tells t))) (record { sized = record { one = refl; two = refl }; each = tt })).each
 
 pub agrees : PublicAgrees
 agrees t one two seed pairs a b =

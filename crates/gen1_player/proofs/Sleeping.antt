@@ -11,7 +11,7 @@ use Rattle.gen1_machine.specs.Moves.{Move, move_at, rest, toxic}
 use Rattle.gen1_machine.specs.Progress.{Progress, choose, fail, fails_if, given, note, on_action, status_of, stay, stop, told, ◌▸◌}
 use Rattle.gen1_machine.specs.Ruling.{ruling_of}
 use Rattle.gen1_machine.specs.Sides.{other}
-use Rattle.gen1_machine.specs.State.{Active, Field, Party, Terms, active_in, changed_active, changed_conditions, changed_member, fallen, first_state, health_in, kind_of, member_at, member_in, party, who_in, with_current_move, with_pp_spent, with_status, with_types_of}
+use Rattle.gen1_machine.specs.State.{Active, Field, Party, Terms, active_in, changed_active, changed_conditions, changed_member, fallen, first_state, health_in, kind_of, member_at, member_in, party, who_in, with_current_move, with_pp_spent, with_status, with_types_of, with_sleep_one_less}
 use Rattle.gen1_machine.specs.Step.{Ran, run}
 use Rattle.gen1_machine.specs.SwitchingIn.{switch_event, with_sent_out}
 use Rattle.gen1_machine.specs.View.{Shown, shown, shown_at, shows, side_shows}
@@ -29,11 +29,11 @@ use Rattle.gen1_player.proofs.DeedTurns.{comes-is}
 use Rattle.gen1_player.proofs.Facts.{IsAwake, Noise, Restful, Sizes, SleepsOn, Standing, dull-noise, sent, sent-place, with_cleared}
 use Rattle.gen1_player.proofs.HeardSides.{bide-hears, clear-hears, end-hears, foe-side, hears-in, hears_all-last, move-hears, out-side, prepare-hears, rest-hears, settled-look, start-hears, starts-begins, switch-hears, types-hears}
 use Rattle.gen1_player.proofs.Placing.{agrees}
-use Rattle.gen1_player.proofs.Sleepers.{Causes, IsCause, Sleepers, Sleeps, Unrested, awake-sleeps, below-or, cause, causes, cure-ends, ended-unrested, faint-ends, noise-same, now_by, out-in, out-same, out-turns, overtaken-not, overtaken-sleeps, placed-at, same-unrested, seen-by, set-there, sides-active, sides-apart, sides-ended, sides-member, sides-slept, sides-turned, sleepers-active, slept-unrested, suffers-causes, with_by}
-use Rattle.gen1_player.proofs.Stories.{MayFall, Now, Outline, Story, Switching, any-note, at_end, begun-member, gain-tells, loosened, note-tells, sickened, slept, stop-tells}
+use Rattle.gen1_player.proofs.Sleepers.{Causes, IsCause, Sleepers, Sleeps, Unrested, awake-sleeps, below-or, cause, causes, cure-ends, ended-unrested, faint-ends, noise-same, now_by, out-in, out-same, out-turns, overtaken-not, overtaken-sleeps, placed-at, same-unrested, seen-by, set-there, sides-active, sides-apart, sides-ended, sides-member, sides-slept, sides-turned, sleepers-active, slept-unrested, suffers-causes, with_by, Adds_up, Cause, IsUp, no_cause, overtaken_by, sides-dozed, lulled_by}
+use Rattle.gen1_player.proofs.Stories.{MayFall, Now, Outline, Story, Switching, any-note, at_end, begun-member, gain-tells, loosened, note-tells, sickened, slept, stop-tells, Dozing, Lulls}
 use Rattle.gen1_player.proofs.ToldActions.{bide_goes_on-tells, charge-tells, current-tells, damage_of-tells, lead_up-tells, prelude-tells, resume-lands, see_if-tells, spend-tells, strike-tells}
 use Rattle.gen1_player.proofs.ToldEffects.{early_effect-tells, heals, late_effect-tells, lulls, may_poison_by, not-toxic, recover-tells, ruling_of-tells}
-use Rattle.gen1_player.proofs.ToldGate.{frozen-tells, gate_of_move-tells, gate_of_turn-tells, less-tells, trapped-tells, wake-told}
+use Rattle.gen1_player.proofs.ToldGate.{frozen-tells, gate_of_move-tells, gate_of_turn-tells, trapped-tells, wake-told, nods-tells, dozes-tells}
 use Rattle.gen1_player.proofs.ToldEnds.{story-runs}
 use Rattle.gen1_player.proofs.ToldTurns.{or-left}
 use Rattle.gen1_player.specs.Public.{bide, comes_out, ends_recharging, first_public, has_fainted, hears_all, is_cleared, is_cured, may_rest, new_uses, not_seen, on_announced, on_out, on_public_side, on_seen, prepares, public_side, put_to_sleep_by, rests_no_more, seen_at, set_volatile, settled, starts_bide, suffers_move, takes_in, takes_types, uses_again, uses_move}
@@ -145,7 +145,7 @@ fallen-restful m e = absurd (true≢false (sym e))
 
 spent-restful : (used : UsedMove) → Restful (with_pp_spent used)
 unfolding with_pp_spent
-spent-restful used m e = (e, refl)
+spent-restful used m e = refl
 
 spent-sleeps : (used : UsedMove) (s : Side) (f : Field) → SleepsOn s (with_pp_spent used) f
 unfolding with_pp_spent
@@ -156,6 +156,10 @@ spent-sleeps used s f e = e
 abbrev Acts_awake : (Field → Public → Type 0) → Side → Type 0
 Acts_awake U s = (f : Field) (p : Public) → U f p → IsAwake s f × ((q : Public) → U f q)
 
+-- A member that acts is awake, and may have used Rest.
+abbrev after_act : ℕ → Cause → Cause
+after_act n c = record c { by = may_rest n }
+
 rest-neither : (n : ℕ) → (may_rest n ≢ 1) × (may_rest n ≢ 2)
 rest-neither n = by (n == rest)
   where
@@ -163,27 +167,27 @@ rest-neither n = by (n == rest)
     by true = (λ e. omega (arith, e), λ e. omega (arith, e))
     by false = (λ e. omega (arith, e), λ e. omega (arith, e))
 
-acted-side : (clause : Bool) (act : PublicSide → PublicSide) (n : ℕ) → ((x : PublicSide) → causes (act x) ≡ with_by (λ k. may_rest n) (causes x)) → (s : Side) (f : Field) (p : Public) → IsAwake s f → (u : Side)
+acted-side : (clause : Bool) (act : PublicSide → PublicSide) (n : ℕ) → ((x : PublicSide) → causes (act x) ≡ with_by (after_act n) (causes x)) → (s : Side) (f : Field) (p : Public) → IsAwake s f → (u : Side)
     → Sleepers clause (causes (public_side u p)) (party u f) → Sleepers clause (causes (public_side u (on_out s act p))) (party u f)
-acted-side clause act n e s f p a u m = sides-turned clause (λ k. may_rest n) s u p (on_out s act p) (party u f) (out-turns act (λ k. may_rest n) e s u p)
-    (λ h by k. awake-sleeps clause (may_rest n) (member_in u f) (subst (λ (t : Side). IsAwake t f) (sym h) a) (rest-neither n)) m
+acted-side clause act n e s f p a u m = sides-turned clause (after_act n) s u p (on_out s act p) (party u f) (out-turns act (after_act n) e s u p)
+    (λ h c k. let up : IsAwake u f = subst (λ (t : Side). IsAwake t f) (sym h) a in awake-sleeps clause (after_act n c) (member_in u f) up (rest-neither n, (k.awake up).1)) m
 
-uses-causes : (n : ℕ) (x : PublicSide) → causes (uses_move n x) ≡ with_by (λ k. may_rest n) (causes x)
-uses-causes n x = seen-by (uses_again (new_uses n x) n) (λ k. may_rest n) (record x { last_move = n }) (λ m. refl)
+uses-causes : (n : ℕ) (x : PublicSide) → causes (uses_move n x) ≡ with_by (after_act n) (causes x)
+uses-causes n x = seen-by (uses_again (new_uses n x) n) (after_act n) (record x { last_move = n }) (λ m. refl)
 
-prepares-causes : (n : ℕ) (x : PublicSide) → causes (prepares n x) ≡ with_by (λ k. may_rest n) (causes x)
-prepares-causes n x = seen-by (uses_again 0 n) (λ k. may_rest n) (record x { last_move = n }) (λ m. refl)
+prepares-causes : (n : ℕ) (x : PublicSide) → causes (prepares n x) ≡ with_by (after_act n) (causes x)
+prepares-causes n x = seen-by (uses_again 0 n) (after_act n) (record x { last_move = n }) (λ m. refl)
 
-bides-causes : (x : PublicSide) → causes (starts_bide x) ≡ with_by (λ k. may_rest bide) (causes x)
-bides-causes x = seen-by (uses_again 1 bide) (λ k. may_rest bide) (record x { last_move = bide }) (λ m. refl)
+bides-causes : (x : PublicSide) → causes (starts_bide x) ≡ with_by (after_act bide) (causes x)
+bides-causes x = seen-by (uses_again 1 bide) (after_act bide) (record x { last_move = bide }) (λ m. refl)
 
 sides-moved : (clause : Bool) (s : Side) (n : ℕ) (f : Field) (p : Public) → IsAwake s f → (u : Side) → Sleepers clause (causes (public_side u p)) (party u f)
     → Sleepers clause (causes (public_side u (takes_in (events.Move (who_in s f) n (who_in (other s) f)) p))) (party u f)
 sides-moved clause s n f p a u m =
     let q : Public = on_out s (uses_move n) p in
     subst (λ (r : Public). Sleepers clause (causes (public_side u r)) (party u f)) (sym (move-hears (who_in s f) (who_in (other s) f) n p))
-    (sides-turned clause rests_no_more (other s) u q (on_out (other s) (suffers_move n) q) (party u f)
-    (out-turns (suffers_move n) rests_no_more (λ x. suffers-causes (ends_recharging (move_at n).effect) x) (other s) u q)
+    (sides-turned clause overtaken_by (other s) u q (on_out (other s) (suffers_move n) q) (party u f)
+    (out-turns (suffers_move n) overtaken_by (λ x. suffers-causes (ends_recharging (move_at n).effect) x) (other s) u q)
     (λ h by k. overtaken-sleeps clause by (member_in u f) k)
     (acted-side clause (uses_move n) n (uses-causes n) s f p a u m))
 
@@ -194,7 +198,7 @@ sleeping clause U l = record {
   said = λ s move. Acts_awake U s;
   acted = λ s move. Unit {0};
   knows = λ s move. bides move.effect ≡ true → Acts_awake U s;
-  lulled = λ s marked. (f : Field) (p : Public) → U f p → IsCause clause (put_to_sleep_by (now_by (causes (public_side s p)))) marked × ((turns : ℕ) → U (slept s turns marked f) p);
+  lulled = λ s turns marked. (f : Field) (p : Public) → U f p → (IsCause clause (put_to_sleep_by (now_by (causes (public_side s p))).by) marked × Adds_up (lulled_by (now_by (causes (public_side s p)))) turns) × U (slept s turns marked f) p;
   upright = λ s. (f : Field) (p : Public) → U f p → IsAwake s f;
   loosen = λ f es m. m;
   tighten = λ f es m a b. m;
@@ -224,16 +228,16 @@ sleeping clause U l = record {
   loose_falls = λ s f es o m. by_end s fallen has_fainted (λ k. refl) (λ g. events.Faint (who_in s g)) (λ g p. faint-ends s g p) f es o (fallen-up (member_in s f)) m;
 }
   where
-    by_sleep : (s : Side) (turns : ℕ) (marked : Bool) → ((f : Field) (p : Public) → U f p → IsCause clause (put_to_sleep_by (now_by (causes (public_side s p)))) marked × ((turns : ℕ) → U (slept s turns marked f) p))
+    by_sleep : (s : Side) (turns : ℕ) (marked : Bool) → ((f : Field) (p : Public) → U f p → (IsCause clause (put_to_sleep_by (now_by (causes (public_side s p))).by) marked × Adds_up (lulled_by (now_by (causes (public_side s p)))) turns) × U (slept s turns marked f) p)
         → (f : Field) (es : List Event) → BothOut f → Slept clause U f es
         → let g : Field = slept s turns marked f in Slept clause U g (es ++ events.Status (who_in s g) kinds.Sleep ∷ [])
     by_sleep s turns marked k f es o m =
         let g : Field = slept s turns marked f in
         let e : Event = events.Status (who_in s g) kinds.Sleep in
         let p : Public = settled e (told_by es) in
-        slept-next l f g es e (λ w x. sides-slept clause s turns marked f p o (k f p w).0 x) (λ w. l.heard g p (takes_in e p) (slept-unrested s g p) ((k f p w).1 turns)) m
+        slept-next l f g es e (λ w x. sides-slept clause s turns marked f p o (k f p w).0 x) (λ w. l.heard g p (takes_in e p) (slept-unrested s g p) (k f p w).1) m
 
-    by_end : (s : Side) (change : Member → Member) (h : Seen → Seen) → ((m : Seen) → cause (h m) ≡ 0) → (event : Field → Event) → ((g : Field) (p : Public) → takes_in (event g) p ≡ on_out s (on_seen h) p)
+    by_end : (s : Side) (change : Member → Member) (h : Seen → Seen) → ((m : Seen) → cause (h m) ≡ no_cause) → (event : Field → Event) → ((g : Field) (p : Public) → takes_in (event g) p ≡ on_out s (on_seen h) p)
         → (f : Field) (es : List Event) → BothOut f → is_asleep (change (member_in s f)).status ≡ false → Slept clause U f es → let g : Field = changed_member s change f in Slept clause U g (es ++ event g ∷ [])
     by_end s change h z event is f es o a m =
         let g : Field = changed_member s change f in
@@ -292,7 +296,7 @@ restful-awake : (change : Member → Member) → Restful change → (m : Member)
 restful-awake change r m a = by (is_asleep (change m).status) refl
   where
     by : (b : Bool) → is_asleep (change m).status ≡ b → b ≡ false
-    by true e = absurd (true≢false (sym (r m e).0 ∙ a))
+    by true e = absurd (true≢false (sym e ∙ ap is_asleep (r m e) ∙ a))
     by false e = refl
 
 up-member : (s t : Side) (change : Member → Member) → Restful change → (f : Field) → IsAwake s f → IsAwake s (changed_member t change f)
@@ -335,7 +339,7 @@ up-lasts s = record {
 }
 
 abbrev Overtaken : Side → Field → Public → Type 0
-Overtaken s f p = IsAwake s f × (now_by (causes (public_side (other s) p)) ≢ 3)
+Overtaken s f p = IsAwake s f × ((now_by (causes (public_side (other s) p))).by ≢ 3)
 
 overtaken-lasts : (s : Side) → Lasting (Overtaken s)
 overtaken-lasts s = let u = up-lasts s in record {
@@ -355,11 +359,22 @@ Before clause s = sleeping clause (Up s) (up-lasts s)
 abbrev After : Bool → Side → Story
 After clause s = sleeping clause (Overtaken s) (overtaken-lasts s)
 
+-- A member that sleeps on
+
+dozing : (clause : Bool) → Dozing (Any clause)
+unfolding sleeping
+dozing clause = record {
+  dozes = λ s turns marked f es o a h m.
+      let g : Field = changed_member s with_sleep_one_less f in
+      let e : Event = events.Cant (who_in s g) reasons.Asleep in
+      slept-next any-lasts f g es e (λ w x. sides-dozed clause s turns marked f (settled e (told_by es)) o a h x) (λ w. tt) m;
+}
+
 -- A member that comes out
 
 sent-causes : (species place level : ℕ) (h : Health) (x : PublicSide) → 1 ≤ place → place ≤ 6 → causes (comes_out species place level h x) ≡ record (causes x) { place = place }
 sent-causes species place level h x low high = ap causes (comes-is species place level h x low high)
-    ∙ ap (λ (l : List ℕ). record { place = place; by = l }) (map-set_same cause x.members (place - 1) (record (seen_at place x) { species = species; level = level; hp = h.hp; max = h.max; status = kind_or_0 h.kind }) not_seen refl)
+    ∙ ap (λ (l : List Cause). record { place = place; by = l }) (map-set_same cause x.members (place - 1) (record (seen_at place x) { species = species; level = level; hp = h.hp; max = h.max; status = kind_or_0 h.kind }) not_seen refl)
 
 sides-sent : (clause : Bool) (s : Side) (place : ℕ) (f : Field) (p : Public) (species level : ℕ) (h : Health) → 1 ≤ place → place ≤ length (party s f).members
     → ((u : Side) → Sleepers clause (causes (public_side u p)) (party u f))
@@ -420,7 +435,7 @@ module _ (clause : Bool) {n : Sizes} {pre : List Event} (s : Side) where
   unfolding sleep_test wake sleep_on cant
   asleep-or-up (Asleep turns marked) = if-sees (nat_le turns 1)
       (λ h. wake-told (outline _ any-lasts) s turns marked h ⊳ stop-leads loosened)
-      (λ h. less-tells (outline _ any-lasts) s turns marked h ⊳ any-note (outline _ any-lasts) _ (λ f. refl) ⊳ stop-leads loosened)
+      (λ h. nods-tells (outline _ any-lasts) s turns marked h ⊳ dozes-tells (outline _ any-lasts) (dozing clause) s ⊳ stop-leads loosened)
   asleep-or-up _ = after-leads (λ p m. now-up _ s p m.0 (ap is_asleep m.1)) stay-tells
 
   gate-up : (pick : Pick) → Leads (Now (Any clause) n pre) (Now (Before clause s) n pre) (MayFall (Any clause) n pre) (gate s pick)
@@ -446,16 +461,16 @@ module _ (clause : Bool) {n : Sizes} {pre : List Event} (s : Side) where
 
 record HasUsed (clause : Bool) (s : Side) (k : ℕ) (n : Sizes) (pre : List Event) (p : Progress) : Type 0 where
   now : Now (After clause s) n pre p
-  own : now_by (causes (public_side s (told_by (pre ++ p.events)))) ≡ may_rest k
+  own : (now_by (causes (public_side s (told_by (pre ++ p.events))))).by ≡ may_rest k
 
-now-with : (clause : Bool) (change : ℕ → ℕ) (x : Causes) (t : Party) → IsOut t → Sleepers clause x t → now_by (with_by change x) ≡ change (now_by x)
+now-with : (clause : Bool) (change : Cause → Cause) (x : Causes) (t : Party) → IsOut t → Sleepers clause x t → now_by (with_by change x) ≡ change (now_by x)
 now-with clause change x t o m =
     let low = o.placed in
     let high = o.within in
     let few = m.few in
     let six = m.six in
     let e = m.place in
-    get_or-set_same x.by (x.place - 1) (change (now_by x)) 0 (omega (arith, low, high, few, six, e))
+    get_or-set_same x.by (x.place - 1) (change (now_by x)) no_cause (omega (arith, low, high, few, six, e))
 
 back : (s : Side) (h : PublicSide → PublicSide) (p : Public) → public_side s (on_out (other s) h p) ≡ public_side s p
 unfolding on_out
@@ -464,18 +479,19 @@ back Two h p = refl
 
 move-own : (clause : Bool) (s : Side) (k : ℕ) (f : Field) (p : Public) → BothOut f → ((u : Side) → Sleepers clause (causes (public_side u p)) (party u f))
     → let q : Public = on_out (other s) (suffers_move k) (on_out s (uses_move k) p) in
-    (now_by (causes (public_side s q)) ≡ may_rest k) × (now_by (causes (public_side (other s) q)) ≢ 3)
+    ((now_by (causes (public_side s q))).by ≡ may_rest k) × ((now_by (causes (public_side (other s) q))).by ≢ 3)
 move-own clause s k f p o m =
     let x : PublicSide = public_side s p in
     let y : PublicSide = public_side (other s) p in
     let q1 : Public = on_out s (uses_move k) p in
     let foe : public_side (other s) q1 ≡ y = foe-side s (uses_move k) p in
     let low : 1 ≤ y.place = placed-at (other s) clause f (causes y) o (m (other s)) in (
-      ap (λ (z : PublicSide). now_by (causes z)) (back s (suffers_move k) q1 ∙ out-side s (uses_move k) p (placed-at s clause f (causes x) o (m s)))
-          ∙ ap now_by (uses-causes k x) ∙ now-with clause (λ i. may_rest k) (causes x) (party s f) (out-in s f o) (m s),
-      λ e. overtaken-not (now_by (causes y)) (sym (ap (λ (z : PublicSide). now_by (causes z)) (out-side (other s) (suffers_move k) q1 (subst (λ (z : PublicSide). 1 ≤ z.place) (sym foe) low))
-          ∙ ap (λ (z : PublicSide). now_by (causes (suffers_move k z))) foe
-          ∙ ap now_by (suffers-causes (ends_recharging (move_at k).effect) y) ∙ now-with clause rests_no_more (causes y) (party (other s) f) (out-in (other s) f o) (m (other s))) ∙ e),
+      ap (λ (z : PublicSide). (now_by (causes z)).by) (back s (suffers_move k) q1 ∙ out-side s (uses_move k) p (placed-at s clause f (causes x) o (m s)))
+          ∙ ap (λ (y : Causes). (now_by y).by) (uses-causes k x) ∙ ap (λ (c : Cause). c.by) (now-with clause (after_act k) (causes x) (party s f) (out-in s f o) (m s)),
+      λ e. overtaken-not (now_by (causes y)).by (sym (ap (λ (z : PublicSide). (now_by (causes z)).by) (out-side (other s) (suffers_move k) q1 (subst (λ (z : PublicSide). 1 ≤ z.place) (sym foe) low))
+          ∙ ap (λ (z : PublicSide). (now_by (causes (suffers_move k z))).by) foe
+          ∙ ap (λ (z : Causes). (now_by z).by) (suffers-causes (ends_recharging (move_at k).effect) y)
+          ∙ ap (λ (c : Cause). c.by) (now-with clause overtaken_by (causes y) (party (other s) f) (out-in (other s) f o) (m (other s)))) ∙ e),
     )
 
 module _ (clause : Bool) {n : Sizes} {pre : List Event} (s : Side) where
@@ -497,11 +513,11 @@ module _ (clause : Bool) {n : Sizes} {pre : List Event} (s : Side) where
             begun = m.begun;
             exact = at_end (Slept clause (Overtaken s)) f pre p.events e (record {
               sides = sides.sides;
-              more = (m.exact.more, subst (λ (z : Public). now_by (causes (public_side (other s) z)) ≢ 3) is w.1);
+              more = (m.exact.more, subst (λ (z : Public). (now_by (causes (public_side (other s) z))).by ≢ 3) is w.1);
             });
           };
-          own = subst (λ (l : List Event). now_by (causes (public_side s (told_by l))) ≡ may_rest k) (append_assoc pre p.events (e ∷ []))
-              (subst (λ (z : Public). now_by (causes (public_side s z)) ≡ may_rest k) is w.0);
+          own = subst (λ (l : List Event). (now_by (causes (public_side s (told_by l)))).by ≡ may_rest k) (append_assoc pre p.events (e ∷ []))
+              (subst (λ (z : Public). (now_by (causes (public_side s z))).by ≡ may_rest k) is w.0);
         });
   }
 
@@ -520,11 +536,11 @@ module _ (clause : Bool) {n : Sizes} {pre : List Event} (s : Side) where
         let e : Event = events.Status (who_in s g) kinds.Sleep in
         let q : Public = settled e (told_by es) in
         let still : causes (public_side s q) ≡ causes (public_side s (told_by es)) = settled-look causes e s (told_by es) (λ x. refl) in
-        let three : now_by (causes (public_side s q)) ≡ 3 = ap now_by still ∙ m.own ∙ ap (λ (b : Bool). if b then 3 else 0) h in
+        let three : (now_by (causes (public_side s q))).by ≡ 3 = ap (λ (x : Causes). (now_by x).by) still ∙ m.own ∙ ap (λ (b : Bool). if b then 3 else 0) h in
         Runs r (record {
           begun = begun-member s (with_status (Asleep 2 false)) f m.now.begun;
           exact = at_end (Slept clause Any_fact) g pre p.events e (slept-next any-lasts f g es e
-              (λ a x. sides-slept clause s 2 false f q m.now.begun.both (inr (ap put_to_sleep_by three, refl)) x) (λ a. tt)
+              (λ a x. sides-slept clause s 2 false f q m.now.begun.both (inr (ap put_to_sleep_by three, refl), (λ z. omega arith, λ z. refl)) x) (λ a. tt)
               (record { sides = m.now.exact.sides; more = tt }));
         });
   }
@@ -564,9 +580,9 @@ module _ (clause : Bool) (s : Side) (move : Move) where
   unfolding sleeping
   after-knows h e = absurd (true≢false (sym e ∙ h))
 
-  after-lulled : (After clause s).lulled (other s) clause
+  after-lulled : Lulls (After clause s) (other s) clause
   unfolding sleeping
-  after-lulled f p u = (inl (put-one _ u.1, refl), λ turns. (up-foe s _ f u.0, u.1))
+  after-lulled turns few f p u = let one = put-one _ u.1 in ((inl (one, refl), (λ z. omega (arith, few), λ z. absurd (omega (arith, one, z)))), (up-foe s _ f u.0, u.1))
 
   before-knows : (Before clause s).knows s move
   unfolding sleeping
@@ -598,7 +614,7 @@ module _ (t : Terms) {n : Sizes} {pre : List Event} (s : Side) (pick : Pick) (mo
   mid-up l w p (inr m) = w p m
 
   carry-with : {U : Field → Public → Type 0} (l : Lasting U) → ((q : Progress) → Now (sleeping t.rules.sleep_clause U l) n pre q → Now (Before t.rules.sleep_clause s) n pre q) → (bides move.effect ≡ true → (sleeping t.rules.sleep_clause U l).knows s move)
-      → (lulls move.effect ≡ true → (sleeping t.rules.sleep_clause U l).lulled (other s) t.rules.sleep_clause)
+      → (lulls move.effect ≡ true → Lulls (sleeping t.rules.sleep_clause U l) (other s) t.rules.sleep_clause)
       → Leads (Now (Before t.rules.sleep_clause s) n pre) (Now (sleeping t.rules.sleep_clause U l) n pre) (MayFall (Any t.rules.sleep_clause) n pre) (lead_up s pick move)
       → Leads (Now (Before t.rules.sleep_clause s) n pre) (MayFall (Any t.rules.sleep_clause) n pre) (MayFall (Any t.rules.sleep_clause) n pre) (carry_out (ruling_of t) s pick move)
   unfolding carry_out
@@ -652,7 +668,7 @@ module _ (t : Terms) {n : Sizes} {pre : List Event} (s : Side) (pick : Pick) whe
 
 -- What is left of it
 
-zeros : (i : ℕ) → slice_index_or (causes first_public.one).by i 0 ≡ 0
+zeros : (i : ℕ) → slice_index_or (causes first_public.one).by i no_cause ≡ no_cause
 zeros zero = refl
 zeros (suc zero) = refl
 zeros (suc (suc zero)) = refl
@@ -666,8 +682,8 @@ first-sleepers clause team h t e z = record {
   place = sym z;
   six = refl;
   few = let few = h.size.1 in subst (λ (l : List Member). length l ≤ 6) (sym e) few;
-  each = λ i. subst (λ (k : ℕ). Sleeps clause k (slice_index_or t.members i nobody)) (sym (zeros i)) (awake-sleeps clause 0 (slice_index_or t.members i nobody)
-      (subst (λ (l : List Member). is_asleep (slice_index_or l i nobody).status ≡ false) (sym e) (by i (below-or i (length team)))) (λ k. omega (arith, k), λ k. omega (arith, k)));
+  each = λ i. subst (λ (k : Cause). Sleeps clause k (slice_index_or t.members i nobody)) (sym (zeros i)) (awake-sleeps clause no_cause (slice_index_or t.members i nobody)
+      (subst (λ (l : List Member). is_asleep (slice_index_or l i nobody).status ≡ false) (sym e) (by i (below-or i (length team)))) ((λ k. omega (arith, k), λ k. omega (arith, k)), refl));
 }
   where
     by : (i : ℕ) → (i < length team) ⊎ (length team ≤ i) → is_asleep (slice_index_or team i nobody).status ≡ false
@@ -680,7 +696,7 @@ Ends clause one two r = Slept clause Any_fact r.state.field (events_in r)
 ends : (t : Terms) (one two : List Member) (seed : List ℕ) (pairs : List (Choice × Choice)) → IsTeam one → IsTeam two → Ends t.rules.sleep_clause one two (run (first_state t one two seed) pairs)
 unfolding hears_all sleeping
 ends t one two seed pairs a b =
-    story-runs (Any t.rules.sleep_clause) t one two seed pairs a b (switches t.rules.sleep_clause) (λ pre s pick. acts-any t s pick)
+    story-runs (Any t.rules.sleep_clause) t one two seed pairs a b (outline _ any-lasts) (switches t.rules.sleep_clause) (λ pre s pick. acts-any t s pick)
     (record { sides = first; more = tt })
   where
     first : (u : Side) → Sleepers t.rules.sleep_clause (causes (public_side u (told_by []))) (party u (first_state t one two seed).field)
@@ -695,7 +711,7 @@ and-true : (b : Bool) → (b && true) ≡ b
 and-true true = refl
 and-true false = refl
 
-shown-cause : (clause : Bool) (s : Seen) (m : Member) → s.status ≡ kind_or_0 (kind_of m.status) → Sleeps clause s.asleep_by m → IsAsleepBy clause s m
+shown-cause : (clause : Bool) (s : Seen) (m : Member) → s.status ≡ kind_or_0 (kind_of m.status) → Sleeps clause (cause s) m → IsAsleepBy clause s m
 shown-cause clause s m e h = shown m.status refl e h.asleep h.awake
   where
     never : (k : ℕ) → s.status ≡ k → k ≢ 1 → (s.status == 1) ≡ false
@@ -705,24 +721,27 @@ shown-cause clause s m e h = shown m.status refl e h.asleep h.awake
         other_than (inl i) = absurd (z (sym e ∙ i.1))
         other_than (inr i) = i.0
 
-    stays-up : (k : ℕ) → s.status ≡ k → k ≢ 1 → (s.asleep_by ≢ 1) × (s.asleep_by ≢ 2) → is_marked m.status ≡ false → IsAsleepBy clause s m
+    stays-up : (k : ℕ) → s.status ≡ k → k ≢ 1 → IsUp (cause s) → is_marked m.status ≡ false → IsAsleepBy clause s m
     stays-up k e z up none = record {
-      cause = record { asleep = λ j. absurd (z (sym e ∙ j)); awake = λ j. up };
+      cause = record { asleep = λ j. absurd (z (sym e ∙ j)); awake = λ j. up.0; rested = λ j. up.1 };
+      turns = h.counted;
       mark = none ∙ sym (ap (λ (b : Bool). clause && (b && s.asleep_by == 1)) (never k e z) ∙ and-false clause);
     }
 
     slept-by : s.status ≡ 1 → IsCause clause s.asleep_by (is_marked m.status) → IsAsleepBy clause s m
     slept-by e (inl c) = record {
-      cause = record { asleep = λ j. inl c.0; awake = λ j. absurd (j e) };
+      cause = record { asleep = λ j. inl c.0; awake = λ j. absurd (j e); rested = λ j. absurd (j e) };
+      turns = h.counted;
       mark = c.1 ∙ sym (ap (λ (k : ℕ). clause && (k == 1 && s.asleep_by == 1)) e ∙ ap (λ (k : ℕ). clause && (k == 1)) c.0 ∙ and-true clause);
     }
     slept-by e (inr c) = record {
-      cause = record { asleep = λ j. inr c.0; awake = λ j. absurd (j e) };
+      cause = record { asleep = λ j. inr c.0; awake = λ j. absurd (j e); rested = λ j. absurd (j e) };
+      turns = h.counted;
       mark = c.1 ∙ sym (ap (λ (k : ℕ). clause && (k == 1 && s.asleep_by == 1)) e ∙ ap (λ (k : ℕ). clause && (k == 1)) c.0 ∙ and-false clause);
     }
 
     shown : (status : Status) → m.status ≡ status → s.status ≡ kind_or_0 (kind_of status) → (is_asleep status ≡ true → IsCause clause s.asleep_by (is_marked m.status))
-        → (is_asleep status ≡ false → (s.asleep_by ≢ 1) × (s.asleep_by ≢ 2)) → IsAsleepBy clause s m
+        → (is_asleep status ≡ false → IsUp (cause s)) → IsAsleepBy clause s m
     shown (Asleep turns marked) i e a b = slept-by e (a refl)
     shown Healthy i e a b = stays-up 0 e (λ k. omega (arith, k)) (b refl) (ap is_marked i)
     shown Poisoned i e a b = stays-up 2 e (λ k. omega (arith, k)) (b refl) (ap is_marked i)
@@ -739,7 +758,7 @@ sleepers_agree t one two seed pairs a b s place z =
     let status : (seen_at place x).status ≡ kind_or_0 (kind_of (member_at place p).status) =
     view s (public_of r) r.state.field (agrees t one two seed pairs a b) place z ∙ ap (λ (m : Shown). kind_or_0 m.kind) (get_or-map shown p.members (place - 1) nobody) in
     shown-cause t.rules.sleep_clause (seen_at place x) (member_at place p) status
-    (subst (λ (n : ℕ). Sleeps t.rules.sleep_clause n (member_at place p)) (get_or-map cause x.members (place - 1) not_seen) (k.each (place - 1)))
+    (subst (λ (n : Cause). Sleeps t.rules.sleep_clause n (member_at place p)) (get_or-map cause x.members (place - 1) not_seen) (k.each (place - 1)))
   where
     view : (s : Side) (p : Public) (f : Field) → AgreesWith p (shows f) → (place : ℕ) → (seen_at place (public_side s p)).species ≢ 0
         → (seen_at place (public_side s p)).status ≡ kind_or_0 (shown_at place (side_shows (party s f))).kind

@@ -58,7 +58,7 @@ use Rattle.gen1_player.proofs.DeedStory.{told_by}
 use Rattle.gen1_player.proofs.DeedGate.{In, Near, Opens}
 use Rattle.gen1_player.proofs.DeedRuns.{keeps-uncounted, valid-tied}
 use Rattle.gen1_player.proofs.DeedActs.{gate_or_held-deeds, own_of, rests-leads, with-keeps, IdleIsQuiet}
-use Rattle.gen1_player.proofs.Counting.{counted-as, counting, counting-outline, counts-conditions, kept-owes, kept-used, members_of, moves_at, owes-either, owes-used, place_of, seen_moves, set-at, spends-own, told-last, About, Against, Counted, Counts, Either, IsSlotOf, Kept, Owes}
+use Rattle.gen1_player.proofs.Counting.{counted-as, counting, counting-outline, counts-conditions, kept-owes, kept-used, members_of, moves_at, owes-either, owes-used, place_of, seen_moves, set-at, spends-own, told-last, About, Against, Counted, Counts, Either, IsSlotOf, Kept, Owes, counting-dozes}
 
 -- Two facts at once, of which the second may need the first
 
@@ -179,9 +179,9 @@ upright-any : (σ : Side) (i : ℕ) (G : About) (s : Side) → (counting σ i G)
 unfolding counting
 upright-any σ i G s = tt
 
-lulled-any : (σ : Side) (i : ℕ) (G : About) (s : Side) (marked : Bool) → (counting σ i G).lulled s marked
+lulled-any : (σ : Side) (i : ℕ) (G : About) (s : Side) (turns : ℕ) (marked : Bool) → (counting σ i G).lulled s turns marked
 unfolding counting
-lulled-any σ i G s marked = tt
+lulled-any σ i G s turns marked = tt
 
 knows-else : (σ : Side) (i : ℕ) (G : About) (s : Side) (move : Move) → bides move.effect ≡ false → (counting σ i G).knows s move
 unfolding counting
@@ -391,7 +391,7 @@ module _ (t : Terms) (z : Sizes) (pre : List Event) (σ : Side) (i : ℕ) (ids :
   -- After the use of any move but Bide
 
   after-new : Leads E E Done (choose (λ p. is_early move.effect) (early_effect σ move move.effect ▸ stop) stay ▸ prelude σ move)
-  after-new = choose-tells _ (early_effect-tells σ move move.effect (acted-any σ i (Either ids j m pp u) σ move) (λ e. lulled-any σ i (Either ids j m pp u) σ false) ⊳ stop-tells) stay-tells ⊳ prelude-tells σ move
+  after-new = choose-tells _ (early_effect-tells σ move move.effect (acted-any σ i (Either ids j m pp u) σ move) (λ e. lulled-any σ i (Either ids j m pp u) σ 2 false) ⊳ stop-tells) stay-tells ⊳ prelude-tells σ move
 
   carry-with : {P R : Progress → Type 0} → bides move.effect ≡ false → Leads P R Done (bide_goes_on σ) → Leads R E Done (choose lets_energy_go stay (lead_up σ pick move))
       → Leads P Done Done (carry_out (ruling_of t) σ pick move)
@@ -399,7 +399,7 @@ module _ (t : Terms) (z : Sizes) (pre : List Event) (σ : Side) (i : ℕ) (ids :
   carry-with h a b = a ⊳ b
       ⊳ choose-tells _ stay-tells (damage_of-tells σ move move.effect)
       ⊳ choose-tells _ stay-tells (choose-tells _ (late_effect-tells (ruling_of t) (ruling_of-tells t) σ move move.effect (λ e. (knows-else σ i (Either ids j m pp u) σ move h, e))
-      (λ e. lulled-any σ i (Either ids j m pp u) (other σ) t.rules.sleep_clause) ⊳ stop-tells) stay-tells)
+      (λ e turns few. lulled-any σ i (Either ids j m pp u) (other σ) turns t.rules.sleep_clause) ⊳ stop-tells) stay-tells)
       ⊳ strike-tells (ruling_of t) (ruling_of-tells t) σ move (upright-any σ i (Either ids j m pp u) σ)
       (λ e. record { acts = acted-any σ i (Either ids j m pp u) σ move; plain = not-toxic move.number (ap (λ (x : Move). may_poison_by x.effect) (sym same) ∙ e) })
       (λ e. knows-else σ i (Either ids j m pp u) σ move h)
@@ -447,7 +447,7 @@ module _ (t : Terms) (z : Sizes) (pre : List Event) (σ : Side) (i : ℕ) (ids :
   unfolding lead_up
   lead-bides h = charge-kept ⊳ use-bides h
       ⊳ rests-leads owes-done (choose-tells _ (early_effect-tells σ move move.effect (acted-any σ i (Owes ids j m pp u i move.number) σ move)
-      (λ e. lulled-any σ i (Owes ids j m pp u i move.number) σ false) ⊳ stop-tells) stay-tells)
+      (λ e. lulled-any σ i (Owes ids j m pp u i move.number) σ 2 false) ⊳ stop-tells) stay-tells)
       ⊳ rests-leads owes-done (prelude-tells σ move)
 
   starts-told : (turns : ℕ) {S : Progress → Type 0} → bides move.effect ≡ true → Leads O E S (starts σ volatiles.Bide (with_bide turns))
@@ -561,7 +561,7 @@ module _ (t : Terms) (plan : Side → Plan) (z : Sizes) (pre : List Event) (b : 
       let does : Does (own_of σ (pre ++ p.events)) (party σ p.field) = does-in σ k.0.0.0.is.even in (
         record {
           old = on;
-          uncounted = keeps-uncounted (own_of σ (pre ++ p.events)) (party σ p.field) (ap (λ (d : Deeds). d.rage) does.same) (valid-tied (party σ p.field) valid) does going;
+          uncounted = keeps-uncounted (own_of σ (pre ++ p.events)) (party σ p.field) (ap (λ (d : Deeds). d.rage) does.same) (valid-tied (party σ p.field) valid) does.last going;
           idle = not-on _ valid.bide_tied plain.0;
         },
         plain.0,
@@ -595,7 +595,7 @@ module _ (t : Terms) (plan : Side → Plan) (z : Sizes) (pre : List Event) (b : 
   unfolding action_parts
   parts-counts pick fits idle = before-leads (λ p x. (x, tt))
       (rests-leads (λ p x. may-as σ i (λ place known seen k. inl k) p x.0.1)
-      (both-leads (both-leads (gate_or_held-deeds t plan b σ pick idle) (gate_or_held-tells (counting-outline σ i (Kept ids j m pp u)) σ pick)) (passes-gate σ pick)))
+      (both-leads (both-leads (gate_or_held-deeds t plan b σ pick idle) (gate_or_held-tells (counting-outline σ i (Kept ids j m pp u)) (counting-dozes σ i (Kept ids j m pp u)) σ pick)) (passes-gate σ pick)))
       ⊳ passed pick fits
     where
       passed : (pick : Pick) → FitsPick pick (plan σ)
@@ -622,7 +622,7 @@ module _ (t : Terms) {z : Sizes} {pre : List Event} (σ : Side) (i : ℕ) (G : A
       (given (λ p. move_taken_in s pick p.field) (carry_out (ruling_of t) s pick))
   unfolding given counting
   far-carries s a pick = record {
-    leads = λ p r k. (carry_out-tells (counting-outline σ i G) (ruling_of t) (ruling_of-tells t) s pick (move_taken_in s pick p.field) refl a (λ u marked. tt) tt).leads p r k;
+    leads = λ p r k. (carry_out-tells (counting-outline σ i G) (ruling_of t) (ruling_of-tells t) s pick (move_taken_in s pick p.field) refl a (λ u turns marked. tt) tt).leads p r k;
   }
 
   pub far-acts : (s : Side) → Against σ s → (pick : Pick) → Leads (Now (counting σ i G) z pre) (MayFall (counting σ i G) z pre) (MayFall (counting σ i G) z pre) (act (ruling_of t) s pick)
@@ -631,5 +631,5 @@ module _ (t : Terms) {z : Sizes} {pre : List Event} (σ : Side) (i : ℕ) (G : A
     leads = λ p r k.
         let y : Progress = action_parts (ruling_of t) s pick (begin s p) in
         resume-lands s (accuracy_to_keep s y) y
-        ((gate_or_held-tells (counting-outline σ i G) s pick ⊳ see_if-tells (counting-outline σ i G) s pick ⊳ far-carries s a pick).leads (begin s p) r k);
+        ((gate_or_held-tells (counting-outline σ i G) (counting-dozes σ i G) s pick ⊳ see_if-tells (counting-outline σ i G) s pick ⊳ far-carries s a pick).leads (begin s p) r k);
   }

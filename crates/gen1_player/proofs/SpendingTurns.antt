@@ -35,8 +35,8 @@ use Rattle.gen1_player.proofs.ToldTurns.{end_turn-tells, replace-falls, residual
 use Rattle.gen1_player.proofs.DeedGate.{at-weak, In, Nothing_more, Opens, Over, Past}
 use Rattle.gen1_player.proofs.DeedActs.{rests-leads, with-keeps, IdleIsQuiet}
 use Rattle.gen1_player.proofs.DeedMoves.{plain_story}
-use Rattle.gen1_player.proofs.DeedTurns.{act-part, begin-in, chosen-fits, ends-deeds, flinches, hurts-part, in-range, next-opens, now-opens, now-settling, over-settling, past-settling, pick-chosen, picks, send-part, stood-now, stood-opens, suffers-part, then-part, uncut-lives, uncut-past, with-leads, Ends, Planned, Stood}
-use Rattle.gen1_player.proofs.Counting.{counted-as, counting, counting-switches, id_of, known-slot, less, members_of, moves_at, pp_at, sides, About, Against, Counts, Either, IsSlotOf, Kept, Tallied, Tally}
+use Rattle.gen1_player.proofs.DeedTurns.{act-part, begin-in, chosen-fits, ends-deeds, flinches, hurts-part, in-range, next-opens, now-opens, now-settling, over-settling, pick-chosen, picks, send-part, spent-settling, stood-now, stood-opens, suffers-part, then-part, uncut-lives, uncut-now, uncut-past, uncut-spent, with-leads, Ends, Free, Planned, Silent, Spent, Stood}
+use Rattle.gen1_player.proofs.Counting.{counted-as, counting, counting-outline, counting-switches, id_of, known-slot, less, members_of, moves_at, pp_at, sides, About, Against, Counts, Either, IsSlotOf, Kept, Tallied, Tally}
 use Rattle.gen1_player.proofs.Spending.{both-leads, far-acts, guided-leads, may-as, may-now, now-as, now-may, own-acts}
 use Rattle.std.proofs.lemmas.Bool.Decides.{eqb_tells, leb_tells}
 use Rattle.std.proofs.lemmas.List.{append-nil, append_assoc}
@@ -55,8 +55,8 @@ use Rattle.gen1_player.specs.Public.{hears_all, not_seen, not_used, public_side,
 use Rattle.gen1_player.specs.True.{events_in, move_in, pp_in, public_of, rise, rises, UsesArePaid}
 use Rattle.gen1_player.proofs.ToldEnds.{close-done, first-done, Fresh, Waits, choice-fits, sizes_of}
 use Rattle.gen1_player.proofs.Appearing.{face, no_face, Face}
-use Rattle.gen1_player.proofs.DeedStory.{deeding, Tale}
-use Rattle.gen1_player.proofs.DeedRuns.{asked-lives, faults-over, first-fits, first-ready, going-on, started-of, stays, step-deeds, Goes, Opens as Begins, Ready, Told}
+use Rattle.gen1_player.proofs.DeedStory.{deeding, LooseTale}
+use Rattle.gen1_player.proofs.DeedRuns.{asked-lives, faults-over, first-fits, first-ready, going-on, started-of, stays, step-deeds, tightened-tale, Goes, Opens as Begins, Ready, Told}
 
 -- What is true before an act of side s that is the second of a turn.
 abbrev due : Side → Side → About → About → About
@@ -82,7 +82,7 @@ module _ (t : Terms) {z : Sizes} {pre : List Event} (σ : Side) (i : ℕ) (G : A
 
   suffers-count : (s : Side) → Leads (Now (counting σ i G) z pre) (Now (counting σ i G) z pre) (MayFall (counting σ i G) z pre) (do_part (ruling_of t) (Suffers s))
   unfolding do_part
-  suffers-count s = residual-tells s
+  suffers-count s = residual-tells (counting-outline σ i G) s
 
   ends-count : Leads (Now (counting σ i G) z pre) (Now (counting σ i G) z pre) (MayFall (counting σ i G) z pre) (do_parts (ruling_of t) [])
   unfolding do_parts
@@ -194,7 +194,7 @@ module _ (t : Terms) (z : Sizes) (pre : List Event) (σ : Side) (i : ℕ) (ids :
 
   -- The parts of a turn
 
-  suffers-both : (b : Bool) (v s : Side) → Leads (λ p. In z pre (Past b v) p × E p) (λ p. In z pre (Past b v) p × E p) Whole (do_part (ruling_of t) (Suffers s))
+  suffers-both : (b : Bool) (v s : Side) → Leads (λ p. In z pre (Past b v) p × E p) (λ p. In z pre (Spent (Free b v)) p × E p) Whole (do_part (ruling_of t) (Suffers s))
   suffers-both b v s = both-leads (suffers-part t b v s) (suffers-count t σ i (Either ids j m pp u) s)
 
   ends-both : (b : Bool) (s : Side) → Leads (λ p. In z pre (Past b s) p × E p) Whole Whole (do_parts (ruling_of t) [])
@@ -205,9 +205,9 @@ module _ (t : Terms) (z : Sizes) (pre : List Event) (σ : Side) (i : ℕ) (ids :
   last-counts plan b s pick fits idle =
       then-part t {W = λ p. In z pre (Over b s) p × E p} (Acts s pick) (Suffers s ∷ []) (after-leads (λ p x. (x.0.0, x.1)) (guided-leads (act-part t plan b s pick fits idle) (last-part plan b s pick fits idle)))
       (λ p x. (at-weak (λ f es k. over-settling b s f es k) p x.0, either-done p x.1))
-      (then-part t {W = λ p. In z pre (Past b s) p × E p} (Suffers s) [] (before-leads (λ p x. (uncut-past b s p x.1 x.0.0, x.0.1)) (suffers-both b s s))
-      (λ p x. (at-weak (λ f es k. past-settling b s f es k) p x.0, either-done p x.1))
-      (before-leads (λ p x. x.0) (ends-both b s)))
+      (then-part t {W = λ p. In z pre (Spent (Free b s)) p × E p} (Suffers s) [] (before-leads (λ p x. (uncut-past b s p x.1 x.0.0, x.0.1)) (suffers-both b s s))
+      (λ p x. (at-weak spent-settling p x.0, either-done p x.1))
+      (before-leads (λ p x. (uncut-spent b s p x.1 x.0.0, x.0.1)) (ends-both b s)))
 
   both-counts : (plan : Side → Plan) (one two : Pick) → ((s : Side) → FitsPick (of_side s one two) (plan s)) → ((s : Side) → IdleIsQuiet (of_side s one two) (plan s)) → (s : Side)
       → Leads (λ p. (In z pre (Opens true s) p × Planned t plan p) × K p) Whole Whole (do_parts (ruling_of t) (both_act one two s))
@@ -217,11 +217,11 @@ module _ (t : Terms) (z : Sizes) (pre : List Event) (σ : Side) (i : ℕ) (ids :
       then-part t {W = λ p. (In z pre (Over true s) p × Planned t next p) × Due (other s) p} (Acts s (of_side s one two)) _
       (guided-leads (act-part t plan true s (of_side s one two) (fits s) (idle s)) (first-part plan s (of_side s one two) (fits s) (idle s)))
       (λ p x. (at-weak (λ f es k. over-settling true s f es k) p x.0.0, due-may (other s) p x.1))
-      (then-part t {W = λ p. (In z pre (Past true s) p × Planned t next p) × Due (other s) p} (Suffers s) _
+      (then-part t {W = λ p. (In z pre (Spent (Free true s)) p × Planned t next p) × Due (other s) p} (Suffers s) _
       (before-leads (λ p x. ((uncut-past true s p x.1 x.0.0.0, x.0.0.1), x.0.1))
       (rests-leads (λ p x. (x.0, due-done (other s) p x.1)) (both-leads (with-keeps (suffers-part t true s s) (suffers_part t next s)) (suffers-count t σ i _ s))))
-      (λ p x. (at-weak (λ f es k. past-settling true s f es k) p x.0.0, due-may (other s) p x.1))
-      (before-leads (λ p x. ((next-opens s p x.1 x.0.0.0, x.0.0.1), x.0.1))
+      (λ p x. (at-weak spent-settling p x.0.0, due-may (other s) p x.1))
+      (before-leads (λ p x. ((next-opens s p x.1 (uncut-spent true s p x.1 x.0.0.0), x.0.0.1), x.0.1))
       (last-counts next false (other s) (of_side (other s) one two) (subst (λ (x : Plan). FitsPick (of_side (other s) one two) x) (sym same) (fits (other s)))
       (subst (λ (x : Plan). IdleIsQuiet (of_side (other s) one two) x) (sym same) (idle (other s))))))
 
@@ -240,10 +240,10 @@ module _ (t : Terms) (z : Sizes) (pre : List Event) (σ : Side) (i : ℕ) (ids :
       then-part t {W = λ p. (Now plain_story z pre p × Planned t plan p) × K p} (Sends (other s) place) _
       (both-leads (with-leads {K = λ f a w. IsPlanned t plan f a w × InRange (other s) place f} (send-part t (other s) place room) (send_part t plan (other s) place any)) (sends-count (other s) place room))
       (λ p x. (now-settling p x.0.0, kept-done p x.1))
-      (then-part t {W = λ p. (Now plain_story z pre p × Planned t plan p) × K p} (Suffers (other s)) _
+      (then-part t {W = λ p. (In z pre (Spent Silent) p × Planned t plan p) × K p} (Suffers (other s)) _
       (before-leads (λ p x. x.0) (both-leads (with-keeps (hurts-part t (other s)) (suffers_part t plan (other s))) (hurts-count (other s))))
-      (λ p x. (now-settling p x.0.0, kept-done p x.1))
-      (before-leads (λ p x. ((now-opens false s p (uncut-lives s p x.1) x.0.0.0, x.0.0.1), kept-due s p x.0.1)) (last-counts plan false s pick fits idle)))
+      (λ p x. (at-weak spent-settling p x.0.0, kept-done p x.1))
+      (before-leads (λ p x. ((now-opens false s p (uncut-lives s p x.1) (uncut-now p x.1 x.0.0.0), x.0.0.1), kept-due s p x.0.1)) (last-counts plan false s pick fits idle)))
 
   both_switch-counts : (one two : ℕ) → facts.Fits z One one → facts.Fits z Two two → Leads K Done Done (do_parts (ruling_of t) (both_switch one two))
   both_switch-counts one two a c =
@@ -353,13 +353,14 @@ module _ (n : Sizes) (σ : Side) (i : ℕ) (ids : List ℕ) (j m pp u : ℕ) (sl
 
     updates-counts : (s : State) (x y : Choice) (q r : Request) → q ≡ s.field.request_one → r ≡ s.field.request_two → IsState s → is_over s.field.outcome ≡ false
         → is_among x (offered_for q One s.field) ≡ true → is_among y (offered_for r Two s.field) ≡ true
-        → ChoiceFits n One x → ChoiceFits n Two y → Begun n s.field → Tale Nothing_more s.field (pre ++ []) → Now (counting σ i (Kept ids j m pp u)) n pre (opened s)
+        → ChoiceFits n One x → ChoiceFits n Two y → Begun n s.field → LooseTale s.field (pre ++ []) → Now (counting σ i (Kept ids j m pp u)) n pre (opened s)
         → MayFall (counting σ i (Either ids j m pp u)) n pre (update_for (ruling_of s.terms) q r x y (opened s))
     unfolding update_for
     updates-counts s x y requests.Move requests.Move e g h over a b c d begun tale k =
         let is = started-of s h e in
+        let live = asked-lives s.terms s.field _ _ refl refl e (going-on s.field.outcome s.terms s.field over is.requests) in
         turn-counts s.terms n pre σ i ids j m pp u slot x y (opened s) refl
-        (record { begun = begun; is = record { tale = tale; lives = asked-lives s.terms s.field _ _ refl refl e (going-on s.field.outcome s.terms s.field over is.requests) } }) k
+        (record { begun = begun; is = record { tale = tightened-tale s.field _ live tale; lives = live } }) k
         (opened-sure s h.seed is.field) (offered-fits One x s.field is.field a) (offered-fits Two y s.field is.field b) c d
     updates-counts s x y requests.Pass requests.Pass e g h over a b c d begun tale k = starts-counts s.field begun (opened s) refl k
     updates-counts s x y _ _ e g h over a b c d begun tale k = replaces-counts x y c d (opened s) refl k

@@ -1,6 +1,6 @@
 -- Stories: facts about a battle's field and the events that it wrote so far. Phases that keep a story true.
 use Rattle.gen1_machine.proofs.Keeps.{Keeps}
-use Rattle.std.proofs.Common.{Bool, List, None, Option, Some, [], ap, arith, false, if◌then◌else◌, length, length-set, refl, subst, sym, true, true≢false, ℕ, ◌++◌, ◌+◌, ◌-◌, ◌==◌, ◌∙◌, ◌∷◌, ◌≡◌, ◌≤◌}
+use Rattle.std.proofs.Common.{Bool, List, None, Option, Some, [], ap, arith, false, if◌then◌else◌, length, length-set, refl, subst, sym, true, true≢false, ℕ, ◌++◌, ◌+◌, ◌-◌, ◌==◌, ◌∙◌, ◌∷◌, ◌≡◌, ◌≤◌, nat_le}
 use Rattle.std.proofs.lemmas.List.{append_assoc, get_or-set_same}
 use Rattle.gen1_rolls.specs.Streams.{Stream, byte_at, first, span}
 use Rattle.gen1_stats.specs.declared.status.Status.{Status}
@@ -18,17 +18,18 @@ use Rattle.gen1_machine.specs.declared.event.Volatile.{Volatile}
 use Rattle.gen1_machine.specs.declared.event.Volatile.TheVariants as volatiles
 use Rattle.gen1_machine.specs.declared.event.Event.{Event}
 use Rattle.gen1_machine.specs.declared.event.Event.TheVariants as events
+use Rattle.gen1_machine.specs.declared.event.CantReason.TheVariants as reasons
 use Rattle.gen1_machine.specs.Sides.{other}
 use Rattle.gen1_machine.specs.Moves.{toxic, Move}
 use Rattle.gen1_tables.specs.Effects.{bides, recharges}
 use Rattle.gen1_machine.specs.Conditions.{with_bad_poison, with_bide, with_recharge, without_seed, ActiveConditions}
-use Rattle.gen1_machine.specs.State.{active_in, changed_active, changed_conditions, changed_member, fallen, has_fallen_in, healed_by, health_in, hurt_by, member_in, party, who_in, with_current_move, with_pp_spent, with_last_damage, with_outcome, with_status, with_types_of, Active, Field}
+use Rattle.gen1_machine.specs.State.{active_in, changed_active, changed_conditions, changed_member, fallen, has_fallen_in, healed_by, health_in, hurt_by, member_in, party, who_in, with_current_move, with_pp_spent, with_last_damage, with_outcome, with_status, with_types_of, Active, Field, with_sleep_one_less}
 use Rattle.gen1_machine.specs.CurrentStats.{with_penalty_of}
 use Rattle.gen1_machine.specs.Progress.{cure, stop, draw, draw_until, ends, fault, gain_hp, inflict, lasts, lose_hp, note, on_action, on_active, on_conditions, on_field, on_member, set_last_damage, starts, told, Action, Phase, Progress}
 use Rattle.gen1_machine.specs.SwitchingIn.{switch_event}
 use Rattle.gen1_machine.proofs.Showing.{keeps-active, keeps-member, BothOut}
 use Rattle.gen1_machine.proofs.Watching.{Lands, Leads, Rests, Runs, choose-tells, stay-tells, stop-leads, ◌⊳◌}
-use Rattle.gen1_player.proofs.Facts.{penalty-placid, still-is, Calm, Dull, Marks, Mild, Noise, Standing, Starts, Placid, Restful, SleepsOn, Sparing, IsAwake, is_own_damage, is_poison, is_sleep, is_still, restful-status, with_cleared, sent, Sizes}
+use Rattle.gen1_player.proofs.Facts.{penalty-placid, still-is, Calm, Dull, Marks, Mild, Noise, Standing, Starts, Placid, Restful, SleepsOn, Sparing, IsAwake, is_telling, is_poison, is_sleep, is_still, restful-status, with_cleared, sent, Sizes}
 
 -- Stories
 
@@ -48,14 +49,14 @@ pub record Story : Type 1 where
   pub said : Side → Move → Type 0  -- that a side may use a move
   pub acted : Side → Move → Type 0  -- that it has used it
   pub knows : Side → Move → Type 0  -- that its active member may use it
-  pub lulled : Side → Bool → Type 0  -- that its active member falls asleep, with this mark
+  pub lulled : Side → ℕ → Bool → Type 0  -- that its active member falls asleep, with this count and mark
   pub loosen : (f : Field) (es : List Event) → exact f es → loose f es
   pub tighten : (f : Field) (es : List Event) → loose f es → has_fallen_in One f ≡ false → has_fallen_in Two f ≡ false → exact f es
   pub upright : Side → Type 0  -- that its active member is awake
   pub member : (s : Side) (change : Member → Member) → Sparing change → Restful change → (f : Field) (es : List Event) → SleepsOn s change f → exact f es → exact (changed_member s change f) es
   pub cures : (s : Side) (change : Member → Member) (kind : Kind) → Sparing change → (f : Field) (es : List Event) → BothOut f → is_asleep (change (member_in s f)).status ≡ false → exact f es
       → exact (changed_member s change f) (es ++ events.Cure (who_in s (changed_member s change f)) kind ∷ [])
-  pub sleeps : (s : Side) (turns : ℕ) (marked : Bool) → lulled s marked → (f : Field) (es : List Event) → BothOut f → exact f es
+  pub sleeps : (s : Side) (turns : ℕ) (marked : Bool) → lulled s turns marked → (f : Field) (es : List Event) → BothOut f → exact f es
       → exact (slept s turns marked f) (es ++ events.Status (who_in s (slept s turns marked f)) kinds.Sleep ∷ [])
   pub active : (s : Side) (change : Active → Active) → Placid change → (f : Field) (es : List Event) → exact f es → exact (changed_active s change f) es
   pub conditions : (s : Side) (change : ActiveConditions → ActiveConditions) → Calm change → (f : Field) (es : List Event)
@@ -86,6 +87,10 @@ pub record Story : Type 1 where
   pub loose_falls : (s : Side) (f : Field) (es : List Event) → BothOut f → loose f es
       → loose (changed_member s fallen f) (es ++ events.Faint (who_in s (changed_member s fallen f)) ∷ [])
 
+-- Why the active member may fall asleep by a move of the foe, with 7 turns at most.
+abbrev pub Lulls : Story → Side → Bool → Type 0
+Lulls v s marked = (turns : ℕ) → turns ≤ 7 → v.lulled s turns marked
+
 -- A story that doesn't follow what an act ends.
 pub record Outline (v : Story) : Type 0 where
   pub takes : (s : Side) (used : UsedMove) (f : Field) (es : List Event) → v.exact f es → v.exact (changed_active s (with_current_move used) f) es
@@ -95,6 +100,11 @@ pub record Outline (v : Story) : Type 0 where
   pub spends : (s : Side) (move : Move) → v.said s move → (used : UsedMove) (f : Field) (es : List Event) → v.exact f es → v.exact (changed_member s (with_pp_spent used) f) es
   pub acts : (s : Side) (move : Move) → v.acted s move
   pub knows : (s : Side) (move : Move) → v.said s move → v.knows s move
+
+-- Why a member that sleeps on keeps a story true.
+pub record Dozing (v : Story) : Type 0 where
+  pub dozes : (s : Side) (turns : ℕ) (marked : Bool) (f : Field) (es : List Event) → BothOut f → (member_in s f).status ≡ Asleep turns marked → nat_le turns 1 ≡ false
+      → v.exact f es → v.exact (changed_member s with_sleep_one_less f) (es ++ events.Cant (who_in s (changed_member s with_sleep_one_less f)) reasons.Asleep ∷ [])
 
 -- Why a member that comes out keeps a story true.
 pub record Switching (v : Story) : Type 0 where
@@ -215,7 +225,7 @@ module _ {v : Story} {n : Sizes} {pre : List Event} where
   pub holds-noise : (e : Event) → is_still e ≡ true → (f : Field) (es : List Event) → Holds v n pre f es → Holds v n pre f (es ++ e ∷ [])
   holds-noise e h f es m = holds-health e f (still-is f e h) es m
 
-  pub holds-slept : (s : Side) (turns : ℕ) (marked : Bool) → v.lulled s marked → (f : Field) (es : List Event) → Holds v n pre f es
+  pub holds-slept : (s : Side) (turns : ℕ) (marked : Bool) → v.lulled s turns marked → (f : Field) (es : List Event) → Holds v n pre f es
       → Holds v n pre (slept s turns marked f) (es ++ events.Status (who_in s (slept s turns marked f)) kinds.Sleep ∷ [])
   holds-slept s turns marked k f es m =
       let g : Field = slept s turns marked f in
@@ -324,17 +334,17 @@ module _ {v : Story} {n : Sizes} {pre : List Event} {S : Progress → Type 0} wh
   unfolding lasts
   lasts-tells s what still change h = told-noise (changed_conditions s change) (λ f. events.Activate (who_in s f) what) (holds-conditions s change h) (λ f. still (who_in s f))
 
-  pub lose-tells : (s : Side) (source : DamageSource) → is_own_damage source ≡ false → (amount : ℕ) → Leads (Now v n pre) (Now v n pre) S (lose_hp s source amount)
+  pub lose-tells : (s : Side) (source : DamageSource) → is_telling source ≡ false → (amount : ℕ) → Leads (Now v n pre) (Now v n pre) S (lose_hp s source amount)
   unfolding lose_hp hurt_by
   lose-tells s source e amount = choose-tells _
       (told-tells (changed_member s (hurt_by amount)) (λ f. events.Damage (who_in s f) (health_in s f) source)
-      (λ f es m. holds-health _ (changed_member s (hurt_by amount) f) (refl, e) es (holds-member s (hurt_by amount) (λ m. refl) (λ m e. (e, refl)) f es (λ e. e) m))) stay-tells
+      (λ f es m. holds-health _ (changed_member s (hurt_by amount) f) (refl, e) es (holds-member s (hurt_by amount) (λ m. refl) (λ m e. refl) f es (λ e. e) m))) stay-tells
 
   pub gain-tells : (s : Side) (amount : ℕ) → Leads (Now v n pre) (Now v n pre) S (gain_hp s amount)
   unfolding gain_hp healed_by
   gain-tells s amount = choose-tells _
       (told-tells (changed_member s (healed_by amount)) (λ f. events.Heal (who_in s f) (health_in s f))
-      (λ f es m. holds-health _ (changed_member s (healed_by amount) f) refl es (holds-member s (healed_by amount) (λ m. refl) (λ m e. (e, refl)) f es (λ e. e) m))) stay-tells
+      (λ f es m. holds-health _ (changed_member s (healed_by amount) f) refl es (holds-member s (healed_by amount) (λ m. refl) (λ m e. refl) f es (λ e. e) m))) stay-tells
 
   pub inflict-tells : (s : Side) (status : Status) (kind : Kind) → is_asleep status ≡ false → (is_poison kind ≡ false) × (is_sleep kind ≡ false)
       → Leads (λ p. Now v n pre p × IsAwake s p.field) (Now v n pre) S (inflict s status kind)
@@ -343,7 +353,7 @@ module _ {v : Story} {n : Sizes} {pre : List Event} {S : Progress → Type 0} wh
       ⊳ told-tells (changed_active s (with_penalty_of status)) (λ f. events.Status (who_in s f) kind)
       (λ f es m. holds-health (events.Status _ kind) (changed_active s (with_penalty_of status) f) e es (holds-active s (with_penalty_of status) (penalty-placid status) f es m))
 
-  pub slept-told : (s : Side) (turns : ℕ) (marked : Bool) → v.lulled s marked
+  pub slept-told : (s : Side) (turns : ℕ) (marked : Bool) → v.lulled s turns marked
       → Leads (Now v n pre) (Now v n pre) S (told (changed_member s (with_status (Asleep turns marked))) (λ f. events.Status (who_in s f) kinds.Sleep))
   slept-told s turns marked k = told-tells (changed_member s (with_status (Asleep turns marked))) (λ f. events.Status (who_in s f) kinds.Sleep) (holds-slept s turns marked k)
 
@@ -421,4 +431,4 @@ module _ {v : Story} {n : Sizes} {pre : List Event} (o : Outline v) where
   unfolding lose_hp hurt_by
   any-loses s source amount = choose-tells _
       (told-tells (changed_member s (hurt_by amount)) (λ f. events.Damage (who_in s f) (health_in s f) source)
-      (λ f es m. holds-any _ (changed_member s (hurt_by amount) f) refl es (holds-member s (hurt_by amount) (λ m. refl) (λ m e. (e, refl)) f es (λ e. e) m))) stay-tells
+      (λ f es m. holds-any _ (changed_member s (hurt_by amount) f) refl es (holds-member s (hurt_by amount) (λ m. refl) (λ m e. refl) f es (λ e. e) m))) stay-tells

@@ -34,7 +34,7 @@ use Rattle.gen1_machine.specs.Action.{set_going_on, see_if_going_on, gate_or_hel
 use Rattle.gen1_machine.proofs.Watching.{seeing, Runs, Rests, Lands, Leads, after-leads, before-leads, ◌⊳◌, choose-tells, if-sees, given-tells, stay-tells, stop-leads}
 use Rattle.std.proofs.Math.Seq.{map-set_same}
 use Rattle.gen1_player.proofs.Facts.{storing-calm, Sizes, Tame, traits}
-use Rattle.gen1_player.proofs.Stories.{mild-tells, takes-tells, Outline, Story, May, Now, MayFall, Tells, at_end, begun-conditions, begun-member, may-active, loosened, draw-tells, until-tells, stop-tells, fault-tells, action-tells, active-tells, conditions-tells, pays-tells, damage-tells, note-tells, starts-tells, ends-tells, lasts-tells, lose-tells, gain-tells}
+use Rattle.gen1_player.proofs.Stories.{mild-tells, takes-tells, Outline, Story, May, Now, MayFall, Tells, at_end, begun-conditions, begun-member, may-active, loosened, draw-tells, until-tells, stop-tells, fault-tells, action-tells, active-tells, conditions-tells, pays-tells, damage-tells, note-tells, starts-tells, ends-tells, lasts-tells, lose-tells, gain-tells, Dozing}
 use Rattle.gen1_player.proofs.ToldGate.{missed-tells, cant-tells, gate-tells, land-tells, hit_or_miss-tells, note_miss-tells}
 use Rattle.gen1_player.proofs.ToldEffects.{heals, may_poison_by, not-toxic, IsDue, Poisons, RulingTells, now-due, due-field, raise-tells, raise-falls, confuse-tells, early_effect-tells, late_effect-tells, side_effect-tells}
 
@@ -69,12 +69,12 @@ module _ {v : Story} {z : Sizes} {pre : List Event} (o : Outline v) where
   unfolding see_if_going_on seeing
   see_if-tells s pick = given-tells _ going-tells
 
-  pub gate_or_held-tells : (s : Side) (pick : Pick) → Tells v z pre (gate_or_held s pick)
+  pub gate_or_held-tells : Dozing v → (s : Side) (pick : Pick) → Tells v z pre (gate_or_held s pick)
   unfolding gate_or_held seeing
-  gate_or_held-tells s Held = cant-tells o s _
-  gate_or_held-tells s (Use used) = gate-tells o s (Use used)
-  gate_or_held-tells s Continue = gate-tells o s Continue
-  gate_or_held-tells s Idle = gate-tells o s Idle
+  gate_or_held-tells w s Held = cant-tells o s _ refl
+  gate_or_held-tells w s (Use used) = gate-tells o w s (Use used)
+  gate_or_held-tells w s Continue = gate-tells o w s Continue
+  gate_or_held-tells w s Idle = gate-tells o w s Idle
 
   letting_go-tells : Tells v z pre set_letting_go
   unfolding set_letting_go seeing
@@ -422,7 +422,7 @@ module _ {v : Story} {z : Sizes} {pre : List Event} where
           ⊳ choose-tells _ stay-tells (side_effect-falls r s move move.effect e)
 
 module _ {v : Story} {z : Sizes} {pre : List Event} (o : Outline v) where
-  pub lead_up-tells : (s : Side) (pick : Pick) (move : Move) → v.said s move → (heals move.effect ≡ true → v.lulled s false) → Tells v z pre (lead_up s pick move)
+  pub lead_up-tells : (s : Side) (pick : Pick) (move : Move) → v.said s move → (heals move.effect ≡ true → v.lulled s 2 false) → Tells v z pre (lead_up s pick move)
   unfolding lead_up seeing
   lead_up-tells s pick move k l = charge-tells o s pick move k ⊳ use_move-tells o s pick move k
       ⊳ choose-tells _ (early_effect-tells s move move.effect (o.acts s move) l ⊳ stop-tells) stay-tells
@@ -431,24 +431,24 @@ module _ {v : Story} {z : Sizes} {pre : List Event} (o : Outline v) where
   -- An action
 
   pub carry_out-tells : (r : Ruling) → RulingTells v z pre r → (s : Side) (pick : Pick) (move : Move) → move.effect ≡ (move_at move.number).effect → v.said s move
-      → ((u : Side) (marked : Bool) → v.lulled u marked) → v.upright s → Leads (Now v z pre) (MayFall v z pre) (MayFall v z pre) (carry_out r s pick move)
+      → ((u : Side) (turns : ℕ) (marked : Bool) → v.lulled u turns marked) → v.upright s → Leads (Now v z pre) (MayFall v z pre) (MayFall v z pre) (carry_out r s pick move)
   unfolding carry_out
   carry_out-tells r h s pick move same k l u = bide_goes_on-tells o s
-      ⊳ choose-tells _ stay-tells (lead_up-tells s pick move k (λ e. l s false))
+      ⊳ choose-tells _ stay-tells (lead_up-tells s pick move k (λ e. l s 2 false))
       ⊳ choose-tells _ stay-tells (damage_of-tells s move move.effect)
-      ⊳ choose-tells _ stay-tells (choose-tells _ (late_effect-tells r h s move move.effect (λ e. (o.knows s move k, e)) (λ e. l (other s) h.marked) ⊳ stop-tells) stay-tells)
+      ⊳ choose-tells _ stay-tells (choose-tells _ (late_effect-tells r h s move move.effect (λ e. (o.knows s move k, e)) (λ e turns few. l (other s) turns h.marked) ⊳ stop-tells) stay-tells)
       ⊳ strike-tells r h s move u
       (λ e. record { acts = o.acts s move; plain = not-toxic move.number (ap may_poison_by (sym same) ∙ e) }) (λ e. o.knows s move k)
 
-  pub says-any : ((s : Side) (move : Move) → v.said s move) → ((u : Side) (marked : Bool) → v.lulled u marked) → ((u : Side) → v.upright u) → (r : Ruling) → RulingTells v z pre r → Says v z pre r
+  pub says-any : ((s : Side) (move : Move) → v.said s move) → ((u : Side) (turns : ℕ) (marked : Bool) → v.lulled u turns marked) → ((u : Side) → v.upright u) → (r : Ruling) → RulingTells v z pre r → Says v z pre r
   unfolding given
   says-any k l u r h s pick = record {
     leads = λ p i m. let move : Move = move_taken_in s pick p.field in (carry_out-tells r h s pick move refl (k s move) l (u s)).leads p i m;
   }
 
-  parts-tells : (r : Ruling) → RulingTells v z pre r → Says v z pre r → (s : Side) (pick : Pick) → Leads (Now v z pre) (MayFall v z pre) (MayFall v z pre) (action_parts r s pick)
+  parts-tells : Dozing v → (r : Ruling) → RulingTells v z pre r → Says v z pre r → (s : Side) (pick : Pick) → Leads (Now v z pre) (MayFall v z pre) (MayFall v z pre) (action_parts r s pick)
   unfolding action_parts
-  parts-tells r h k s pick = gate_or_held-tells o s pick ⊳ see_if-tells o s pick ⊳ k s pick
+  parts-tells w r h k s pick = gate_or_held-tells o w s pick ⊳ see_if-tells o s pick ⊳ k s pick
 
 -- Only a fault stops more than the action
 
@@ -471,11 +471,11 @@ resume-lands s byte q l =
     let g : Field = changed_active s (with_kept_accuracy byte) q.field in
     by-end (record q { field = g }) (is_over g.outcome) (may-accuracy s byte q.field q.events (landed q l))
 
-pub act-tells : {v : Story} {z : Sizes} {pre : List Event} → Outline v → (r : Ruling) → RulingTells v z pre r → Says v z pre r → (s : Side) (pick : Pick)
+pub act-tells : {v : Story} {z : Sizes} {pre : List Event} → Outline v → Dozing v → (r : Ruling) → RulingTells v z pre r → Says v z pre r → (s : Side) (pick : Pick)
     → Leads (Now v z pre) (MayFall v z pre) (MayFall v z pre) (act r s pick)
 unfolding act keep_accuracy given begin on_action
-act-tells o r h k s pick = record {
+act-tells o w r h k s pick = record {
   leads = λ p i m.
       let x : Progress = action_parts r s pick (begin s p) in
-      resume-lands s (accuracy_to_keep s x) x ((parts-tells o r h k s pick).leads (begin s p) i m);
+      resume-lands s (accuracy_to_keep s x) x ((parts-tells o w r h k s pick).leads (begin s p) i m);
 }

@@ -1,7 +1,7 @@
 -- A story stays true through what moves do in addition to damage.
 use Rattle.gen1_stats.specs.Members.{is_asleep, is_healthy}
 use Rattle.gen1_machine.proofs.Keeps.{on_conditions-keeps}
-use Rattle.std.proofs.Common.{Bool, List, None, Option, Some, [], ap, false, if◌then◌else◌, inl, inr, nat_lt, not, refl, subst, sym, true, true≢false, ℕ, ◌++◌, ◌+◌, ◌==◌, ◌||◌, ◌∙◌, ◌∷◌, ◌≡◌, ◌≢◌, ◌⊎◌}
+use Rattle.std.proofs.Common.{Bool, List, None, Option, Some, [], ap, false, if◌then◌else◌, inl, inr, nat_lt, not, refl, subst, sym, true, true≢false, ℕ, ◌++◌, ◌+◌, ◌==◌, ◌||◌, ◌∙◌, ◌∷◌, ◌≡◌, ◌≢◌, ◌⊎◌, ◌≤◌, arith}
 use Rattle.std.proofs.lemmas.Bool.Decides.{eqb_tells}
 use Rattle.gen1_tables.specs.Effects.{bides, recharges}
 use Rattle.gen1_tables.specs.Moves.{move_row, move_rows}
@@ -33,13 +33,13 @@ use Rattle.gen1_machine.specs.LateEffects.{ready_to_sleep, put_to_sleep, lower_f
 use Rattle.gen1_machine.specs.SideEffects.{happens_below, by_chance, thaw, may_inflict, may_poison, may_confuse, flinch, kept_away_effect, names_slot, disable_for, disable_slot, disable, must_recharge, side_effect}
 use Rattle.gen1_machine.proofs.Watching.{Leads, Runs, after-leads, before-leads, choose-sees, choose-tells, given-sees, given-tells, if-sees, seeing, stay-tells, ◌⊳◌}
 use Rattle.gen1_player.proofs.Facts.{IsAwake, Placid, Sizes, is_still, penalty-placid, with_cleared}
-use Rattle.gen1_player.proofs.Stories.{Begun, Holds, MayFall, Now, Story, Tells, active-tells, at_end, begun-active, begun-conditions, conditions-tells, cure-tells, draw-tells, gain-tells, holds-slept, inflict-tells, lose-tells, may-active, may-noise, note-tells, poison-told, sickened, slept, slept-told, starts-tells, stores-tells, told-tells, until-tells, with-keeps}
+use Rattle.gen1_player.proofs.Stories.{Begun, Holds, MayFall, Now, Story, Tells, active-tells, at_end, begun-active, begun-conditions, conditions-tells, cure-tells, draw-tells, gain-tells, holds-slept, inflict-tells, lose-tells, may-active, may-noise, note-tells, poison-told, sickened, slept, slept-told, starts-tells, stores-tells, told-tells, until-tells, with-keeps, Lulls}
 use Rattle.gen1_player.proofs.ToldGate.{awake-conditions, fail-tells, fails_if-awake, fails_if-sees, fails_if-tells, must_hit-awake, must_hit-tells}
 
 -- A sleep move puts the mark on its foe, or not.
 pub record RulingTells (v : Story) (n : Sizes) (pre : List Event) (r : Ruling) : Type 0 where
   pub marked : Bool
-  pub sleeps : (s : Side) → v.lulled (other s) marked → Tells v n pre (r.sleeps s)
+  pub sleeps : (s : Side) → Lulls v (other s) marked → Tells v n pre (r.sleeps s)
   pub freezes : (s : Side) → Leads (λ p. Now v n pre p × IsAwake (other s) p.field) (Now v n pre) (MayFall v n pre) (r.freezes s)
 
 -- Effects that may poison in addition to damage. Toxic has none of them.
@@ -215,10 +215,13 @@ module _ {v : Story} {n : Sizes} {pre : List Event} where
         exact = at_end v.exact g pre es (events.Start (who_in s g) volatiles.TypeChange) (v.converts s f (pre ++ es) m.begun.both m.exact);
       }
 
+few-turns : (b : ℕ) → low_bits 3 b ≤ 7
+few-turns b = omega arith
+
 module _ {v : Story} {n : Sizes} {pre : List Event} where
   -- The rulings
 
-  slept-due : {S : Progress → Type 0} (s : Side) (turns : ℕ) (marked : Bool) → v.lulled s marked
+  slept-due : {S : Progress → Type 0} (s : Side) (turns : ℕ) (marked : Bool) → v.lulled s turns marked
       → Leads (IsDue v n pre (slept s turns marked)) (Now v n pre) S (told (changed_active s (with_penalty_of (Asleep turns marked))) (λ f. events.Status (who_in s f) kinds.Sleep))
   unfolding told
   slept-due s turns marked k = record {
@@ -227,15 +230,15 @@ module _ {v : Story} {n : Sizes} {pre : List Event} where
         (holds-slept s turns marked k m.before p.events m.held));
   }
 
-  pub sleep_for-tells : (marked : Bool) (s : Side) (b : ℕ) → v.lulled s marked → Tells v n pre (sleep_for marked s b)
+  pub sleep_for-tells : (marked : Bool) (s : Side) (b : ℕ) → Lulls v s marked → Tells v n pre (sleep_for marked s b)
   unfolding sleep_for inflict on_member
-  sleep_for-tells marked s b k = before-leads now-due (due-field (slept s (low_bits 3 b) marked) (λ f. f)) ⊳ slept-due s (low_bits 3 b) marked k
+  sleep_for-tells marked s b k = before-leads now-due (due-field (slept s (low_bits 3 b) marked) (λ f. f)) ⊳ slept-due s (low_bits 3 b) marked (k (low_bits 3 b) (few-turns b))
 
-  pub fall_asleep-tells : (marked : Bool) (s : Side) → v.lulled s marked → Tells v n pre (fall_asleep marked s)
+  pub fall_asleep-tells : (marked : Bool) (s : Side) → Lulls v s marked → Tells v n pre (fall_asleep marked s)
   unfolding fall_asleep seeing
   fall_asleep-tells marked s k = until-tells is_sleep_count (λ b. sleep_for-tells marked s b k)
 
-  pub sleeps_under-tells : (clause : Bool) (s : Side) → v.lulled (other s) clause → Tells v n pre (sleeps_under clause s)
+  pub sleeps_under-tells : (clause : Bool) (s : Side) → Lulls v (other s) clause → Tells v n pre (sleeps_under clause s)
   unfolding sleeps_under sleep_only_one sleep_freely seeing
   sleeps_under-tells true s k = fails_if-tells s _ ⊳ fall_asleep-tells true (other s) k
   sleeps_under-tells false s k = fall_asleep-tells false (other s) k
@@ -316,7 +319,7 @@ module _ {v : Story} {n : Sizes} {pre : List Event} where
   unfolding haze seeing
   haze-tells s = before-leads now-due (clear_side-tells One (λ f. f)) ⊳ clear_side-tells Two (with_cleared One) ⊳ clears-told ⊳ given-tells _ (haze_cures-tells (other s))
 
-  pub rest_up-tells : (s : Side) → v.lulled s false → Tells v n pre (rest_up s)
+  pub rest_up-tells : (s : Side) → v.lulled s 2 false → Tells v n pre (rest_up s)
   unfolding rest_up seeing
   rest_up-tells s k = slept-told s 2 false k ⊳ given-tells _ (λ m. gain-tells s _)
 
@@ -324,7 +327,7 @@ module _ {v : Story} {n : Sizes} {pre : List Event} where
   unfolding recover seeing
   recover-tells s = given-tells _ (λ m. gain-tells s _)
 
-  pub heal-tells : (s : Side) (move : Move) → v.lulled s false → Tells v n pre (heal s move)
+  pub heal-tells : (s : Side) (move : Move) → v.lulled s 2 false → Tells v n pre (heal s move)
   unfolding heal seeing
   heal-tells s move k = fails_if-tells s _ ⊳ choose-tells _ (rest_up-tells s k) (recover-tells s)
 
@@ -366,7 +369,7 @@ module _ {v : Story} {n : Sizes} {pre : List Event} where
   unfolding splash seeing
   splash-tells s = note-tells _ (λ f. refl)
 
-  pub early_effect-tells : (s : Side) (move : Move) (e : Effect) → v.acted s move → (heals e ≡ true → v.lulled s false) → Tells v n pre (early_effect s move e)
+  pub early_effect-tells : (s : Side) (move : Move) (e : Effect) → v.acted s move → (heals e ≡ true → v.lulled s 2 false) → Tells v n pre (early_effect s move e)
   unfolding early_effect seeing
   early_effect-tells s move effects.Conversion a k = convert-tells s
   early_effect-tells s move effects.Mist a k = mist-tells s
@@ -388,7 +391,7 @@ module _ {v : Story} {n : Sizes} {pre : List Event} where
   unfolding ready_to_sleep seeing
   ready_to_sleep-tells s move = choose-tells _ (conditions-tells (other s) _ (λ c. refl)) (fails_if-tells s _ ⊳ must_hit-tells s move)
 
-  pub put_to_sleep-tells : (r : Ruling) (h : RulingTells v n pre r) (s : Side) (move : Move) → v.lulled (other s) h.marked → Tells v n pre (put_to_sleep r s move)
+  pub put_to_sleep-tells : (r : Ruling) (h : RulingTells v n pre r) (s : Side) (move : Move) → Lulls v (other s) h.marked → Tells v n pre (put_to_sleep r s move)
   unfolding put_to_sleep seeing
   put_to_sleep-tells r h s move k = ready_to_sleep-tells s move ⊳ h.sleeps s k
 
@@ -405,7 +408,7 @@ module _ {v : Story} {n : Sizes} {pre : List Event} where
   bide-tells s move k e = draw-tells (bide_for-tells s move k e)
 
   pub late_effect-tells : (r : Ruling) (h : RulingTells v n pre r) (s : Side) (move : Move) (e : Effect) → (bides e ≡ true → v.knows s move × (bides move.effect ≡ true))
-      → (lulls e ≡ true → v.lulled (other s) h.marked) → Tells v n pre (late_effect r s move e)
+      → (lulls e ≡ true → Lulls v (other s) h.marked) → Tells v n pre (late_effect r s move e)
   unfolding late_effect seeing
   late_effect-tells r h s move (effects.StatUp stat by) k l = raise-tells s s stat by (fail-tells s)
   late_effect-tells r h s move (effects.StatDown stat by) k l = lower_foes-tells s move stat by

@@ -16,7 +16,7 @@ use Rattle.gen1_machine.specs.Step.{update_for, close_update, update, answered, 
 use Rattle.gen1_machine.proofs.Showing.{IsOut}
 use Rattle.gen1_machine.proofs.Watching.{Runs, Rests, Lands, Leads, after-leads, before-leads, ◌⊳◌, choose-tells, choose-sees, given-tells, stay-tells, stop-leads}
 use Rattle.gen1_player.proofs.Facts.{Fits, Sizes, is_still, sent}
-use Rattle.gen1_player.proofs.Stories.{Begun, Holds, May, MayFall, Now, Sized, Story, Switching, at_end, begun-member, holds-noise, loosened, may-noise}
+use Rattle.gen1_player.proofs.Stories.{Begun, Holds, May, MayFall, Now, Outline, Sized, Story, Switching, at_end, begun-member, holds-noise, loosened, may-noise}
 use Rattle.gen1_player.proofs.ToldTurns.{send_out-at, Goes, ChoiceFits, or-left, or-right, other-out-two, out-one, out-two, sent-sized, send_out-falls, tightened, turn-tells, replace-falls}
 use Rattle.std.proofs.lemmas.Bool.{false≢true}
 use Rattle.std.proofs.lemmas.List.{append-nil, append_assoc}
@@ -357,10 +357,10 @@ abbrev pub sizes_of : List Member → List Member → Sizes
 sizes_of one two = record { one = length one; two = length two }
 
 pub story-runs : (v : Story) (t : Terms) (one two : List Member) (seed : List ℕ) (pairs : List (Choice × Choice)) → IsTeam one → IsTeam two
-    → Switching v → ((pre : List Event) (s : Side) (pick : Pick) → Leads (Now v (sizes_of one two) pre) (MayFall v (sizes_of one two) pre) (MayFall v (sizes_of one two) pre) (act (ruling_of t) s pick))
+    → Outline v → Switching v → ((pre : List Event) (s : Side) (pick : Pick) → Leads (Now v (sizes_of one two) pre) (MayFall v (sizes_of one two) pre) (MayFall v (sizes_of one two) pre) (act (ruling_of t) s pick))
     → v.exact (first_state t one two seed).field []
     → v.loose (run (first_state t one two seed) pairs).state.field (flat_map events_of (run (first_state t one two seed) pairs).answers)
-story-runs v t one two seed pairs a b w k start =
+story-runs v t one two seed pairs a b o w k start =
     let s : State = first_state t one two seed in
     ready-loose (flat_map events_of (run s pairs).answers) (run s pairs).state.field
-    (run-ready [] s pairs (λ pre. record { switching = w; acts = k pre }) (Opens (record { sized = record { one = refl; two = refl }; exact = start }) refl refl a.size.0 b.size.0))
+    (run-ready [] s pairs (λ pre. record { outline = o; switching = w; acts = k pre }) (Opens (record { sized = record { one = refl; two = refl }; exact = start }) refl refl a.size.0 b.size.0))

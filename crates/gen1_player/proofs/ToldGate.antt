@@ -1,8 +1,9 @@
 -- A story stays true through the gate, the landing and the hit test.
+use Rattle.gen1_machine.specs.declared.event.CantReason.TheVariants as reasons
 use Rattle.gen1_machine.specs.declared.side.Side.TheVariants.{One, Two}
 use Rattle.gen1_machine.proofs.Keeps.{Keeps, Spares, choose-keeps, draw-keeps, given-keeps, note-keeps, on_action-keeps, on_conditions-keeps, on_field-keeps, stay-keeps, stop-keeps, then-keeps}
 use Rattle.gen1_stats.specs.Members.{Member, is_asleep, is_marked}
-use Rattle.std.proofs.Common.{Bool, List, None, Option, Some, ap, false, if◌then◌else◌, nat_le, refl, sym, true, true≢false, ℕ, ◌-◌, ◌∙◌, ◌≡◌}
+use Rattle.std.proofs.Common.{[], Bool, List, None, Option, Some, ap, false, if◌then◌else◌, nat_le, refl, sym, true, true≢false, ℕ, ◌-◌, ◌∙◌, ◌≡◌, ◌++◌, ◌∷◌, subst}
 use Rattle.gen1_stats.specs.declared.status.Status.{Status}
 use Rattle.gen1_stats.specs.declared.status.Status.TheVariants.{Asleep, Healthy}
 use Rattle.gen1_machine.specs.declared.side.Side.{Side}
@@ -18,17 +19,17 @@ use Rattle.gen1_machine.specs.declared.picks.Pick.{Pick}
 use Rattle.gen1_machine.specs.declared.picks.DisabledSlot.{DisabledSlot}
 use Rattle.gen1_machine.specs.Conditions.{ActiveConditions, with_confusion_one_less}
 use Rattle.gen1_machine.specs.Sides.{other}
-use Rattle.gen1_machine.specs.State.{changed_active, changed_conditions, changed_member, member_in, one_turn_less_asleep, who_in, with_last_damage, with_sleep_one_less}
+use Rattle.gen1_machine.specs.State.{changed_active, changed_conditions, changed_member, member_in, one_turn_less_asleep, who_in, with_last_damage, with_sleep_one_less, Field}
 use Rattle.gen1_machine.specs.Moves.{Move}
-use Rattle.gen1_machine.specs.Progress.{Progress, fail, fails_if, on_member, set_last_damage, set_missed, status_of, told}
+use Rattle.gen1_machine.specs.Progress.{Progress, fail, fails_if, on_member, set_last_damage, set_missed, status_of, told, note, on_field}
 use Rattle.gen1_machine.specs.Damage.{before_types}
 use Rattle.gen1_machine.specs.HitTest.{miss, set_tested, hits_below, test_by, hit_test, hit_or_miss, note_miss, must_hit}
 use Rattle.gen1_machine.specs.Landing.{set_broke, land_on_substitute, land_on_hp, land_by, land_damage, land}
 use Rattle.gen1_machine.specs.HitOnItself.{land_on_foes_substitute, hurt_itself_by, hurt_itself}
 use Rattle.gen1_machine.specs.Gate.{cant, wake, sleep_on, sleep_test, frozen_test, trapped_test, flinch_test, recharge_test, disable_count, may_hurt_itself, confusion_test, disabled_test, may_be_paralysed, paralysis_test, gate_of_status, gate_of_turn, gate_of_move, gate}
 use Rattle.gen1_machine.proofs.Watching.{Leads, Runs, before-leads, choose-sees, choose-tells, given-sees, given-tells, if-sees, seeing, stay-tells, stop-leads, ◌⊳◌}
-use Rattle.gen1_player.proofs.Facts.{IsAwake, Restful, Sizes, Sparing, calm-mild, confusion-calm, disable-calm, is_own_damage, is_still, substitute-calm}
-use Rattle.gen1_player.proofs.Stories.{MayFall, Now, Outline, Story, Tells, action-tells, any-lasts, any-loses, any-note, conditions-tells, damage-tells, draw-tells, ends-tells, fault-tells, holds-cured, lasts-tells, loosened, lose-tells, member-tells, mild-tells, note-tells, stop-tells}
+use Rattle.gen1_player.proofs.Facts.{IsAwake, Restful, Sizes, Sparing, calm-mild, confusion-calm, disable-calm, is_telling, is_still, substitute-calm, is_doze}
+use Rattle.gen1_player.proofs.Stories.{MayFall, Now, Outline, Story, Tells, action-tells, any-lasts, any-loses, any-note, conditions-tells, damage-tells, draw-tells, ends-tells, fault-tells, holds-cured, lasts-tells, loosened, lose-tells, member-tells, mild-tells, note-tells, stop-tells, Dozing, at_end, begun-member, Holds}
 
 miss-noise : (b : Bool) (x y : Who) → is_still (if b then events.Immune x else events.Miss y) ≡ true
 miss-noise true x y = refl
@@ -38,26 +39,20 @@ pub sleep-tame : Sparing with_sleep_one_less
 unfolding with_sleep_one_less
 sleep-tame m = refl
 
-less-restful : (status : Status) → is_asleep (one_turn_less_asleep status) ≡ true → (is_asleep status ≡ true) × (is_marked (one_turn_less_asleep status) ≡ is_marked status)
-less-restful (Asleep turns marked) = by (nat_le turns 1)
-  where
-    by : (b : Bool) → let less : Status = (if b then Healthy else Asleep (turns - 1) marked) in is_asleep less ≡ true → (is_asleep (Asleep turns marked) ≡ true) × (is_marked less ≡ marked)
-    by true e = absurd (true≢false (sym e))
-    by false e = (refl, refl)
-less-restful _ = λ e. absurd (true≢false (sym e))
-
-pub sleep-restful : Restful with_sleep_one_less
-unfolding with_sleep_one_less
-sleep-restful m e = less-restful m.status e
-
 -- At the end of the count it wakes up.
-sleeps-on : (turns : ℕ) (marked : Bool) (m : Member) → m.status ≡ Asleep turns marked → nat_le turns 1 ≡ false → is_asleep (with_sleep_one_less m).status ≡ true
-unfolding with_sleep_one_less
-sleeps-on turns marked m e h = ap (λ (x : Status). is_asleep (one_turn_less_asleep x)) e ∙ ap (λ (b : Bool). is_asleep (if b then Healthy else Asleep (turns - 1) marked)) h
-
 wakes-up : (turns : ℕ) (marked : Bool) (m : Member) → m.status ≡ Asleep turns marked → nat_le turns 1 ≡ true → is_asleep (with_sleep_one_less m).status ≡ false
 unfolding with_sleep_one_less
 wakes-up turns marked m e h = ap (λ (x : Status). is_asleep (one_turn_less_asleep x)) e ∙ ap (λ (b : Bool). is_asleep (if b then Healthy else Asleep (turns - 1) marked)) h
+
+-- The count of a sleeping member has fallen, and no event has told so.
+pub record Nods (v : Story) (n : Sizes) (pre : List Event) (s : Side) (p : Progress) : Type 0 where
+  pub before : Field
+  pub now : Holds v n pre before p.events
+  pub turns : ℕ
+  pub marked : Bool
+  pub asleep : (member_in s before).status ≡ Asleep turns marked
+  pub more : nat_le turns 1 ≡ false
+  pub is : changed_member s with_sleep_one_less before ≡ p.field
 
 module _ {v : Story} {n : Sizes} {pre : List Event} where
   -- Misses and failures
@@ -89,7 +84,7 @@ module _ {v : Story} {n : Sizes} {pre : List Event} where
   unfolding land_on_substitute seeing
   on_substitute-tells s damage hp = choose-tells _ (broke-tells ⊳ ends-tells s _ _ (λ c. refl)) (lasts-tells s volatiles.Substitute (λ w. refl) _ (substitute-calm damage))
 
-  pub on_hp-tells : (s : Side) (source : DamageSource) → is_own_damage source ≡ false → (damage : ℕ) → Tells v n pre (land_on_hp s source damage)
+  pub on_hp-tells : (s : Side) (source : DamageSource) → is_telling source ≡ false → (damage : ℕ) → Tells v n pre (land_on_hp s source damage)
   unfolding land_on_hp seeing
   on_hp-tells s source e damage = given-tells _ (λ m. damage-tells _ ⊳ lose-tells s source e damage)
 
@@ -130,9 +125,9 @@ module _ {v : Story} {n : Sizes} {pre : List Event} (o : Outline v) where
 
   -- The gate
 
-  pub cant-tells : (s : Side) (why : CantReason) → Tells v n pre (cant s why)
+  pub cant-tells : (s : Side) (why : CantReason) → is_doze why ≡ false → Tells v n pre (cant s why)
   unfolding cant seeing
-  cant-tells s why = any-note o _ (λ f. refl) ⊳ stop-tells
+  cant-tells s why e = any-note o _ (λ f. e) ⊳ stop-tells
 
   pub wake-told : {S : Progress → Type 0} (s : Side) (turns : ℕ) (marked : Bool) → nat_le turns 1 ≡ true → Leads (λ p. Now v n pre p × (status_of s p ≡ Asleep turns marked)) (Now v n pre) S
       (told (changed_member s with_sleep_one_less) (λ f. events.Cure (who_in s f) kinds.Sleep))
@@ -146,34 +141,48 @@ module _ {v : Story} {n : Sizes} {pre : List Event} (o : Outline v) where
   unfolding wake
   wake-tells s turns marked h = wake-told s turns marked h ⊳ stop-tells
 
-  pub less-tells : {S : Progress → Type 0} (s : Side) (turns : ℕ) (marked : Bool) → nat_le turns 1 ≡ false
-      → Leads (λ p. Now v n pre p × (status_of s p ≡ Asleep turns marked)) (Now v n pre) S (on_member s with_sleep_one_less)
-  less-tells s turns marked h = member-tells s with_sleep_one_less sleep-tame sleep-restful (λ p m. (m.0, λ e. sleeps-on turns marked (member_in s p.field) m.1 h))
+  pub nods-tells : {S : Progress → Type 0} (s : Side) (turns : ℕ) (marked : Bool) → nat_le turns 1 ≡ false
+      → Leads (λ p. Now v n pre p × (status_of s p ≡ Asleep turns marked)) (Nods v n pre s) S (on_member s with_sleep_one_less)
+  unfolding on_member on_field
+  nods-tells s turns marked h = record { leads = λ p r m. Runs r (record { before = p.field; now = m.0; turns = turns; marked = marked; asleep = m.1; more = h; is = refl }) }
 
-  pub sleep_on-tells : (s : Side) (turns : ℕ) (marked : Bool) → nat_le turns 1 ≡ false → Leads (λ p. Now v n pre p × (status_of s p ≡ Asleep turns marked)) (Now v n pre) (MayFall v n pre) (sleep_on s)
-  unfolding sleep_on
-  sleep_on-tells s turns marked h = less-tells s turns marked h ⊳ cant-tells s _
+  pub dozes-tells : {S : Progress → Type 0} → Dozing v → (s : Side) → Leads (Nods v n pre s) (Now v n pre) S (note (λ f. events.Cant (who_in s f) reasons.Asleep))
+  unfolding note
+  dozes-tells w s = record {
+    leads = λ p r m.
+        let g : Field = changed_member s with_sleep_one_less m.before in
+        let e : Event = events.Cant (who_in s g) reasons.Asleep in
+        let told : Holds v n pre g (p.events ++ e ∷ []) = record {
+          begun = begun-member s with_sleep_one_less m.before m.now.begun;
+          exact = at_end v.exact g pre p.events e (w.dozes s m.turns m.marked m.before (pre ++ p.events) m.now.begun.both m.asleep m.more m.now.exact);
+        } in
+        Runs r (subst (λ (f : Field). Holds v n pre f (p.events ++ events.Cant (who_in s f) reasons.Asleep ∷ [])) m.is told);
+  }
 
-  pub sleep-tells : (s : Side) (status : Status) → Leads (λ p. Now v n pre p × (status_of s p ≡ status)) (Now v n pre) (MayFall v n pre) (sleep_test s status)
+  pub sleep_on-tells : Dozing v → (s : Side) (turns : ℕ) (marked : Bool) → nat_le turns 1 ≡ false → Leads (λ p. Now v n pre p × (status_of s p ≡ Asleep turns marked)) (Now v n pre) (MayFall v n pre) (sleep_on s)
+  unfolding sleep_on cant
+  sleep_on-tells w s turns marked h = nods-tells s turns marked h ⊳ dozes-tells w s ⊳ stop-tells
+
+  pub sleep-tells : Dozing v → (s : Side) (status : Status) → Leads (λ p. Now v n pre p × (status_of s p ≡ status)) (Now v n pre) (MayFall v n pre) (sleep_test s status)
   unfolding sleep_test
-  sleep-tells s (Asleep turns marked) = if-sees (nat_le turns 1) (λ h. wake-tells s turns marked h) (λ h. sleep_on-tells s turns marked h)
-  sleep-tells s _ = before-leads (λ p m. m.0) stay-tells
+  sleep-tells w s (Asleep turns marked) = if-sees (nat_le turns 1) (λ h. wake-tells s turns marked h) (λ h. sleep_on-tells w s turns marked h)
+  sleep-tells w s _ = before-leads (λ p m. m.0) stay-tells
 
   pub frozen-tells : (s : Side) → Tells v n pre (frozen_test s)
   unfolding frozen_test seeing
-  frozen-tells s = choose-tells _ (cant-tells s _) stay-tells
+  frozen-tells s = choose-tells _ (cant-tells s _ refl) stay-tells
 
   pub trapped-tells : (s : Side) → Tells v n pre (trapped_test s)
   unfolding trapped_test seeing
-  trapped-tells s = choose-tells _ (cant-tells s _) stay-tells
+  trapped-tells s = choose-tells _ (cant-tells s _ refl) stay-tells
 
   pub flinch-tells : (s : Side) → Tells v n pre (flinch_test s)
   unfolding flinch_test seeing
-  flinch-tells s = choose-tells _ (conditions-tells s _ (λ c. refl) ⊳ cant-tells s _) stay-tells
+  flinch-tells s = choose-tells _ (conditions-tells s _ (λ c. refl) ⊳ cant-tells s _ refl) stay-tells
 
   pub recharge-tells : (s : Side) → Tells v n pre (recharge_test s)
   unfolding recharge_test seeing
-  recharge-tells s = choose-tells _ (conditions-tells s _ (λ c. refl) ⊳ cant-tells s _) stay-tells
+  recharge-tells s = choose-tells _ (conditions-tells s _ (λ c. refl) ⊳ cant-tells s _ refl) stay-tells
 
   pub disable_count-tells : (s : Side) (x : Option DisabledSlot) → Tells v n pre (disable_count s x)
   unfolding disable_count seeing
@@ -191,19 +200,19 @@ module _ {v : Story} {n : Sizes} {pre : List Event} (o : Outline v) where
 
   pub disabled-tells : (s : Side) (pick : Pick) → Tells v n pre (disabled_test s pick)
   unfolding disabled_test seeing
-  disabled-tells s pick = choose-tells _ (mild-tells o s _ (λ c. refl) ⊳ cant-tells s _) stay-tells
+  disabled-tells s pick = choose-tells _ (mild-tells o s _ (λ c. refl) ⊳ cant-tells s _ refl) stay-tells
 
   pub may_be_paralysed-tells : (s : Side) (b : ℕ) → Tells v n pre (may_be_paralysed s b)
   unfolding may_be_paralysed seeing
-  may_be_paralysed-tells s b = choose-tells _ (mild-tells o s _ (λ c. refl) ⊳ cant-tells s _) stay-tells
+  may_be_paralysed-tells s b = choose-tells _ (mild-tells o s _ (λ c. refl) ⊳ cant-tells s _ refl) stay-tells
 
   pub paralysis-tells : (s : Side) → Tells v n pre (paralysis_test s)
   unfolding paralysis_test seeing
   paralysis-tells s = choose-tells _ (draw-tells (may_be_paralysed-tells s)) stay-tells
 
-  pub gate_of_status-tells : (s : Side) → Tells v n pre (gate_of_status s)
+  pub gate_of_status-tells : Dozing v → (s : Side) → Tells v n pre (gate_of_status s)
   unfolding gate_of_status seeing
-  gate_of_status-tells s = given-sees (status_of s) (sleep-tells s) ⊳ frozen-tells s ⊳ trapped-tells s
+  gate_of_status-tells w s = given-sees (status_of s) (sleep-tells w s) ⊳ frozen-tells s ⊳ trapped-tells s
 
   pub gate_of_turn-tells : (s : Side) → Tells v n pre (gate_of_turn s)
   unfolding gate_of_turn seeing
@@ -213,9 +222,9 @@ module _ {v : Story} {n : Sizes} {pre : List Event} (o : Outline v) where
   unfolding gate_of_move seeing
   gate_of_move-tells s pick = given-tells _ (confusion-tells s) ⊳ disabled-tells s pick ⊳ paralysis-tells s ⊳ choose-tells _ stop-tells stay-tells
 
-  pub gate-tells : (s : Side) (pick : Pick) → Tells v n pre (gate s pick)
+  pub gate-tells : Dozing v → (s : Side) (pick : Pick) → Tells v n pre (gate s pick)
   unfolding gate seeing
-  gate-tells s pick = gate_of_status-tells s ⊳ gate_of_turn-tells s ⊳ gate_of_move-tells s pick
+  gate-tells w s pick = gate_of_status-tells w s ⊳ gate_of_turn-tells s ⊳ gate_of_move-tells s pick
 
 -- The hit test
 

@@ -120,8 +120,8 @@ hp-told t h m e =
 
 falls-told : (t : Teller) (m : Seen) → has_fainted (with_hp_told t m) ≡ with_hp_told t (has_fainted m)
 falls-told t m =
-    ap (λ (hp : ℕ). record (with_hp_told t m) { hp = hp; status = 0; asleep_by = 0 }) (sym (none-told m.max t))
-    ∙ ap (λ (most : ℕ). record m { hp = (health_told (record { hp = 0; max = m.max; kind = None }) t).hp; max = most; status = 0; asleep_by = 0 })
+    ap (λ (hp : ℕ). record (with_hp_told t m) { hp = hp; status = 0; asleep_by = 0; slept = 0 }) (sym (none-told m.max t))
+    ∙ ap (λ (most : ℕ). record m { hp = (health_told (record { hp = 0; max = m.max; kind = None }) t).hp; max = most; status = 0; asleep_by = 0; slept = 0 })
     (max-alone (record { hp = m.hp; max = m.max; kind = None }) (record { hp = 0; max = m.max; kind = None }) t refl)
 
 comes-told : (t : Teller) (species level : ℕ) (h : Health) (m n : Seen) → n ≡ m ⊎ n ≡ with_hp_told t m
@@ -152,7 +152,7 @@ foe-sees t place ms k = record {
   none = refl;
   some = λ z e. let n = left (place == 0) 0 (slot_of place t.places + 1) (is-some place z) in omega (arith, n, e);
   out = foe-out t place ms k;
-  status = λ z c a. foe-same t place (slice_index_or ms (place - 1) not_seen) (with_status_by c a) (with_status_by c a) z refl;
+  status = λ z c a d. foe-same t place (slice_index_or ms (place - 1) not_seen) (with_status_by c a d) (with_status_by c a d) z refl;
   falls = λ z. foe-same t place (slice_index_or ms (place - 1) not_seen) has_fainted has_fainted z
       (falls-told t (slice_index_or ms (place - 1) not_seen));
   moves = λ z more id. foe-same t place (slice_index_or ms (place - 1) not_seen)

@@ -21,8 +21,8 @@ use Rattle.gen1_machine.specs.TurnOrder.{toss, in_order_of_speed, in_order_of_ra
 use Rattle.gen1_machine.specs.Turn.{Part, Sends, Acts, Suffers, do_part, is_cut, end_spent_trapping, end_turn, do_parts, both_act, set_picked, both_pick, switch_then_act, one_picks, both_switch, play_turn, turn}
 use Rattle.gen1_machine.proofs.Showing.{IsOut}
 use Rattle.gen1_machine.proofs.Watching.{seeing, Runs, Lands, Leads, after-leads, before-leads, ◌⊳◌, choose-tells, choose-sees, given-tells, stay-tells}
-use Rattle.gen1_player.proofs.Facts.{is_own_damage, sent-place, worse-calm, Fits, Sizes, sent}
-use Rattle.gen1_player.proofs.Stories.{Story, Switching, Sized, Begun, Now, MayFall, Tells, at_end, loosened, draw-tells, active-tells, conditions-tells, lose-tells, gain-tells}
+use Rattle.gen1_player.proofs.Facts.{sent-place, worse-mild, Fits, Sizes, sent}
+use Rattle.gen1_player.proofs.Stories.{Outline, Story, Switching, Sized, Begun, Now, MayFall, Tells, at_end, loosened, draw-tells, active-tells, any-loses, conditions-tells, gain-tells, mild-tells}
 use Rattle.gen1_player.proofs.ToldActions.{begin-tells}
 
 -- A place that holds a member, and a choice that names one
@@ -107,8 +107,9 @@ send_out-at s place p r =
     let third : Progress = record p { field = sent s place p.field; events = p.events ++ switch_event s place (sent s place p.field) ∷ [] } in
     ap (λ (b : Bool). elim b as (λ _. Progress) [ true ↦ first | false ↦ elim b as (λ _. Progress) [ true ↦ second | false ↦ third ] ]) r
 
--- What a turn needs to know: that a member may come out, and act.
+-- What a turn needs to know: that a member may suffer, come out, and act.
 pub record Goes (v : Story) (n : Sizes) (pre : List Event) (r : Ruling) : Type 0 where
+  pub outline : Outline v
   pub switching : Switching v
   pub acts : (s : Side) (pick : Pick) → Leads (Now v n pre) (MayFall v n pre) (MayFall v n pre) (act r s pick)
 
@@ -139,31 +140,31 @@ send_out-falls {v} {n} {pre} {S} w s place fits = record {
 module _ {v : Story} {n : Sizes} {pre : List Event} where
   -- Residual damage
 
-  worsen-tells : (s : Side) → Tells v n pre (worsen s)
+  worsen-tells : Outline v → (s : Side) → Tells v n pre (worsen s)
   unfolding worsen seeing
-  worsen-tells s = conditions-tells s _ worse-calm
+  worsen-tells o s = mild-tells o s _ worse-mild
 
-  suffer-tells : (s : Side) (source : DamageSource) → is_own_damage source ≡ false → Tells v n pre (suffer s source)
+  suffer-tells : Outline v → (s : Side) (source : DamageSource) → Tells v n pre (suffer s source)
   unfolding suffer
-  suffer-tells s source e = worsen-tells s ⊳ given-tells _ (lose-tells s source e)
+  suffer-tells o s source = worsen-tells o s ⊳ given-tells _ (any-loses o s source)
 
-  drained_by-tells : (s : Side) (amount : ℕ) → Tells v n pre (drained_by s amount)
+  drained_by-tells : Outline v → (s : Side) (amount : ℕ) → Tells v n pre (drained_by s amount)
   unfolding drained_by
-  drained_by-tells s amount = lose-tells s sources.LeechSeed refl amount ⊳ gain-tells (other s) amount
+  drained_by-tells o s amount = any-loses o s sources.LeechSeed amount ⊳ gain-tells (other s) amount
 
-  suffer_seed-tells : (s : Side) → Tells v n pre (suffer_seed s)
+  suffer_seed-tells : Outline v → (s : Side) → Tells v n pre (suffer_seed s)
   unfolding suffer_seed
-  suffer_seed-tells s = worsen-tells s ⊳ given-tells _ (drained_by-tells s)
+  suffer_seed-tells o s = worsen-tells o s ⊳ given-tells _ (drained_by-tells o s)
 
-  suffer_status-tells : (s : Side) (status : Status) → Tells v n pre (suffer_status s status)
+  suffer_status-tells : Outline v → (s : Side) (status : Status) → Tells v n pre (suffer_status s status)
   unfolding suffer_status
-  suffer_status-tells s Poisoned = suffer-tells s sources.Poison refl
-  suffer_status-tells s Burned = suffer-tells s sources.Burn refl
-  suffer_status-tells s _ = stay-tells
+  suffer_status-tells o s Poisoned = suffer-tells o s sources.Poison
+  suffer_status-tells o s Burned = suffer-tells o s sources.Burn
+  suffer_status-tells o s _ = stay-tells
 
-  pub residual-tells : (s : Side) → Tells v n pre (residual s)
+  pub residual-tells : Outline v → (s : Side) → Tells v n pre (residual s)
   unfolding residual
-  residual-tells s = choose-tells _ (given-tells _ (suffer_status-tells s) ⊳ choose-tells _ (suffer_seed-tells s) stay-tells) stay-tells
+  residual-tells o s = choose-tells _ (given-tells _ (suffer_status-tells o s) ⊳ choose-tells _ (suffer_seed-tells o s) stay-tells) stay-tells
 
   -- The parts of a turn
 
@@ -171,7 +172,7 @@ module _ {v : Story} {n : Sizes} {pre : List Event} where
   unfolding do_part
   do_part-tells r k (Sends s place) fits = begin-tells s ⊳ after-leads loosened (send_out-tells k.switching s place fits)
   do_part-tells r k (Acts s pick) fits = begin-tells s ⊳ choose-tells _ (after-leads loosened stay-tells) (k.acts s pick)
-  do_part-tells r k (Suffers s) fits = after-leads loosened (residual-tells s)
+  do_part-tells r k (Suffers s) fits = after-leads loosened (residual-tells k.outline s)
 
   spent-tells : (s : Side) → Tells v n pre (end_spent_trapping s)
   unfolding end_spent_trapping seeing

@@ -1,12 +1,13 @@
 -- Worked examples: what a side learns, what the log makes public, what a player knows, and what a side is shown of itself
 -- (docs/PROOFS.md, "Worked examples").
-use Rattle.std.proofs.Common.{List, None, [], refl, replicate, ℕ, ◌∷◌, ◌≡◌, false, true}
+use Rattle.std.proofs.Common.{List, None, [], refl, replicate, ℕ, ◌++◌, ◌∷◌, ◌≡◌, false, true}
 use Rattle.gen1_machine.specs.declared.event.DamageSource.TheVariants.{Direct}
+use Rattle.gen1_machine.specs.declared.event.DamageSource.TheVariants as sources
 use Rattle.gen1_machine.specs.declared.event.CantReason.TheVariants as reasons
 use Rattle.gen1_machine.specs.declared.event.Volatile.TheVariants as volatiles
 use Rattle.gen1_machine.specs.declared.event.Event.{Event}
 use Rattle.gen1_machine.specs.declared.event.Event.TheVariants as events
-use Rattle.gen1_machine.specs.declared.health.Kind.TheVariants.{Poison}
+use Rattle.gen1_machine.specs.declared.health.Kind.TheVariants.{Poison, Sleep}
 use Rattle.gen1_machine.specs.declared.health.Who.{Who}
 use Rattle.gen1_machine.specs.declared.side.Side.TheVariants.{One, Two}
 use Rattle.gen1_machine.specs.Health.{Health}
@@ -104,6 +105,26 @@ hit_behind = (refl, refl, refl, refl, refl)
 -- A Tauros of side 1 after these events.
 abbrev after : List Event → Public
 after es = hears_all (events.Switch bull 1 100 (health 353 353) ∷ comes 3 ∷ es) first_public
+
+-- Bad poison (docs/MECHANICS.md, "Residual damage"): the hurts that make 331 and 287 of 353 HP count. A new Toxic begins again, and other
+-- poison counts nothing.
+abbrev hurts : List Event
+hurts = events.Damage bull (health 331 353) sources.Poison ∷ events.Damage bull (health 287 353) sources.LeechSeed ∷ []
+
+worse_and_worse : ((after (events.Move starmie 92 bull ∷ events.Status bull Poison ∷ hurts)).one.announced.toxic_count ≡ 2)
+    × ((after (events.Move starmie 92 bull ∷ events.Status bull Poison ∷ hurts ++ events.Status bull Poison ∷ [])).one.announced.toxic_count ≡ 0)
+    × ((after (events.Move starmie 77 bull ∷ events.Status bull Poison ∷ hurts)).one.announced.toxic_count ≡ 0)
+unfolding computing hears_all hears settled takes_in on_out
+worse_and_worse = (refl, refl, refl)
+
+-- Turns asleep (docs/MECHANICS.md, "What the log makes public"): they count until the member wakes, and by a new sleep they begin again.
+abbrev slept_after : List Event → ℕ
+slept_after es = (seen_at 1 (after (events.Move starmie 95 bull ∷ events.Status bull Sleep ∷ events.Cant bull reasons.Asleep ∷ events.Cant bull reasons.Asleep ∷ es)).one).slept
+
+turns_asleep : (slept_after [] ≡ 2) × (slept_after (events.Status bull Sleep ∷ []) ≡ 0) × (slept_after (events.Cure bull Sleep ∷ []) ≡ 0)
+    × (slept_after (events.Cant bull reasons.Flinched ∷ events.Cant starmie reasons.Asleep ∷ []) ≡ 2)
+unfolding computing hears_all hears settled takes_in on_out
+turns_asleep = (refl, refl, refl, refl)
 
 -- Dig (docs/MECHANICS.md, "What the log makes public"): its first turn hides the user and is no use. Full paralysis leaves it hidden.
 digs : ((after (events.Prepare bull 91 ∷ [])).one.invulnerable ≡ 1) × ((after (events.Prepare bull 91 ∷ events.Move bull 91 starmie ∷ [])).one.invulnerable ≡ 0)

@@ -42,7 +42,7 @@ not_used = record { id = 0; uses = 0 }
 
 -- A place from which no member has appeared: its species is 0. A member shows at most five moves, four and Struggle.
 abbrev pub not_seen : Seen
-not_seen = record { hp = 0; max = 0; species = 0; level = 0; status = 0; moves = replicate 5 not_used; asleep_by = 0 }
+not_seen = record { hp = 0; max = 0; species = 0; level = 0; status = 0; moves = replicate 5 not_used; asleep_by = 0; slept = 0; unused = 0 }
 
 abbrev pub nothing_announced : Announced
 nothing_announced = record {
@@ -54,6 +54,7 @@ nothing_announced = record {
   reflect = 0;
   seeded = 0;
   toxic = 0;
+  toxic_count = 0;
   disabled = 0;
   rage = 0;
   bide = 0;
@@ -72,6 +73,7 @@ first_public_side = record {
   last_move = 0;
   announced = nothing_announced;
   invulnerable = 0;
+  unused = 0;
 }
 
 -- Before the first event nothing is public.
@@ -144,14 +146,26 @@ abbrev pub asleep_after : Kind → ℕ → ℕ
 asleep_after kinds.Sleep n = put_to_sleep_by n
 asleep_after _ n = n
 
+abbrev pub slept_after : Kind → ℕ → ℕ
+slept_after kinds.Sleep n = 0
+slept_after _ n = n
+
 abbrev pub is_afflicted : Kind → Seen → Seen
-is_afflicted kind m = record m { status = kind_number kind; asleep_by = asleep_after kind m.asleep_by }
+is_afflicted kind m = record m { status = kind_number kind; asleep_by = asleep_after kind m.asleep_by; slept = slept_after kind m.slept }
 
 abbrev pub is_cured : Seen → Seen
-is_cured m = record m { status = 0; asleep_by = 0 }
+is_cured m = record m { status = 0; asleep_by = 0; slept = 0 }
 
 abbrev pub has_fainted : Seen → Seen
-has_fainted m = record m { hp = 0; status = 0; asleep_by = 0 }
+has_fainted m = record m { hp = 0; status = 0; asleep_by = 0; slept = 0 }
+
+-- A turn that it sleeps.
+abbrev pub slept_on : CantReason → ℕ → ℕ
+slept_on reasons.Asleep n = min 6 (n + 1)
+slept_on _ n = n
+
+abbrev pub sleeps_on : CantReason → Seen → Seen
+sleeps_on why m = record m { slept = slept_on why m.slept }
 
 -- A member that comes out has nothing from before.
 abbrev pub comes_out : ℕ → ℕ → ℕ → Health → PublicSide → PublicSide
@@ -223,9 +237,20 @@ is_kept_by reasons.Disabled a = record a { charging = 0 }
 is_kept_by reasons.Paralysed a = record a { bide = 0; charging = 0 }
 is_kept_by _ a = a
 
--- A hit on itself ends the same as full paralysis, and brings the member back into reach.
+abbrev pub is_kept : CantReason → PublicSide → PublicSide
+is_kept why x = on_announced (is_kept_by why) (on_seen (sleeps_on why) x)
+
+-- The counter of bad poison rises to 64 at most.
+abbrev pub worsens : Announced → Announced
+worsens a = if a.toxic == 0 then a else record a { toxic_count = min 64 (a.toxic_count + 1) }
+
+-- A hit on itself ends the same as full paralysis, and brings the member back into reach. Poison, a burn and Leech Seed make bad poison
+-- worse.
 abbrev pub is_hurt_by : DamageSource → Announced → Announced
 is_hurt_by sources.Confusion a = record a { bide = 0; charging = 0 }
+is_hurt_by sources.Poison a = worsens a
+is_hurt_by sources.Burn a = worsens a
+is_hurt_by sources.LeechSeed a = worsens a
 is_hurt_by _ a = a
 
 abbrev pub reach_after : DamageSource → ℕ → ℕ
@@ -235,9 +260,9 @@ reach_after _ invulnerable = invulnerable
 abbrev pub takes_damage : DamageSource → PublicSide → PublicSide
 takes_damage source x = record x { announced = is_hurt_by source x.announced; invulnerable = reach_after source x.invulnerable }
 
--- Poison that follows Toxic is bad poison. A freeze ends recharging.
+-- Poison that follows Toxic is bad poison, and its counter begins at 0. A freeze ends recharging.
 abbrev pub gets_status : Kind → ℕ → Announced → Announced
-gets_status kinds.Poison move a = if move == toxic then record a { toxic = 1 } else a
+gets_status kinds.Poison move a = if move == toxic then record a { toxic = 1; toxic_count = 0 } else a
 gets_status kinds.Freeze move a = record a { recharging = 0 }
 gets_status _ move a = a
 
@@ -264,6 +289,7 @@ ends_by_haze a = record a {
   reflect = 0;
   seeded = 0;
   toxic = 0;
+  toxic_count = 0;
   disabled = 0;
 }
 
@@ -335,7 +361,7 @@ unfoldable pub takes_in : Event → Public → Public
 takes_in (events.Turn n) p = record p { turn = n }
 takes_in (events.Switch w place level h) p = on_public_side w.side (comes_out w.species place level h) p
 takes_in (events.Move w move foe) p = on_out (other w.side) (suffers_move move) (on_out w.side (uses_move move) p)
-takes_in (events.Cant w why) p = on_out w.side (on_announced (is_kept_by why)) p
+takes_in (events.Cant w why) p = on_out w.side (is_kept why) p
 takes_in (events.Damage w h source) p = on_out w.side (λ x. takes_damage source (on_seen (λ m. record m { hp = h.hp }) x)) p
 takes_in (events.Heal w h) p = on_out w.side (on_seen (λ m. record m { hp = h.hp })) p
 takes_in (events.Status w kind) p =

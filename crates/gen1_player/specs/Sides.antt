@@ -7,7 +7,7 @@ use Rattle.gen1_machine.specs.declared.event.Volatile.TheVariants as volatiles
 use Rattle.gen1_machine.specs.declared.side.Side.{Side}
 use Rattle.gen1_player.specs.declared.public_side.PublicSide.{PublicSide}
 use Rattle.gen1_player.specs.declared.seen.Seen.{Seen}
-use Rattle.gen1_player.specs.Public.{comes_out, drops, gets_status, has_fainted, if_seen_out, is_afflicted, is_cured, is_kept_by, not_seen, on_announced, on_seen, prepares, rises, seen_at, set_volatile, starts_bide, suffers_move, takes_damage, takes_types, uses_move}
+use Rattle.gen1_player.specs.Public.{comes_out, drops, gets_status, has_fainted, if_seen_out, is_afflicted, is_cured, is_kept, not_seen, on_announced, on_seen, prepares, rises, seen_at, set_volatile, starts_bide, suffers_move, takes_damage, takes_types, uses_move}
 
 -- the side that an event names, if it changes what is public of it
 abbrev pub side_named : Event → Option Side
@@ -36,7 +36,7 @@ side_begins what foe x = if_seen_out (on_announced (set_volatile what 1)) x
 abbrev pub side_hears : Event → PublicSide → PublicSide → PublicSide
 side_hears (events.Switch w place level h) foe x = comes_out w.species place level h x
 side_hears (events.Move w move other) foe x = if_seen_out (uses_move move) x
-side_hears (events.Cant w why) foe x = if_seen_out (on_announced (is_kept_by why)) x
+side_hears (events.Cant w why) foe x = if_seen_out (is_kept why) x
 side_hears (events.Damage w h source) foe x = if_seen_out (λ y. takes_damage source (on_seen (λ m. record m { hp = h.hp }) y)) x
 side_hears (events.Heal w h) foe x = if_seen_out (on_seen (λ m. record m { hp = h.hp })) x
 side_hears (events.Status w kind) foe x =

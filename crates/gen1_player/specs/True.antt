@@ -1,11 +1,12 @@
 -- What holds of all that a log makes public, after any run of a battle from its start, and of what a player holds of it.
-use Rattle.std.specs.Prelude.{All, Bool, List, None, [], false, if◌then◌else◌, is_some, map, nat_lt, replicate, true, ℕ, ◌&&◌, ◌*◌, ◌+◌, ◌-◌, ◌==◌, ◌≡◌, ◌≢◌, ◌≤◌, ◌⊎◌, ◌∷◌}
+use Rattle.std.specs.Prelude.{All, Bool, List, None, [], false, if◌then◌else◌, is_some, map, nat_lt, replicate, true, unwrap_or, ℕ, ◌&&◌, ◌*◌, ◌+◌, ◌-◌, ◌==◌, ◌≡◌, ◌≢◌, ◌≤◌, ◌⊎◌, ◌∷◌}
 use Rattle.std.specs.List.{flat_map}
 use Rattle.gen1_tables.specs.declared.effect.Effect.{Effect}
 use Rattle.gen1_tables.specs.Effects.{recharges}
 use Rattle.gen1_tables.specs.Moves.{struggle}
 use Rattle.gen1_tables.specs.Types.{any, number_of}
 use Rattle.gen1_stats.specs.declared.known_move.KnownMove.{KnownMove}
+use Rattle.gen1_stats.specs.declared.status.Status.TheVariants.{Asleep}
 use Rattle.gen1_stats.specs.Members.{is_living, is_marked, IsTeam, Member}
 use Rattle.gen1_machine.specs.declared.choice.Choice.{Choice}
 use Rattle.gen1_machine.specs.declared.event.Event.{Event}
@@ -106,14 +107,16 @@ ConditionsAgree = OfRuns λ one two r. IsTold (public_of r) r.state.field
 abbrev pub current_move_of : Party → ℕ
 current_move_of t = number_in t.active.current_move (member_at t.active.place t).moves
 
--- Bide, charging and bad poison are announced exactly if they are on. A member that is announced as invulnerable is so. The last move is
--- the current one. A member that has to recharge, or is announced so, used a move for it last. A move that continues, which costs no PP, isn't
--- counted as a use.
+-- Bide, charging and bad poison are announced exactly if they are on. The counter of bad poison is that of a living member: once poison took
+-- the last HP, Leech Seed raises it without an event. A member that is announced as invulnerable is so. The last move is the current one. A
+-- member that has to recharge, or is announced so, used a move for it last. A move that continues, which costs no PP, isn't counted as a use.
 pub record SideDoes (x : PublicSide) (t : Party) : Type 0 where
   pub bide : x.announced.bide ≡ bit_of (is_some t.active.conditions.underway.bide)
   pub charging : x.announced.charging ≡ bit_of t.active.conditions.underway.charging
   pub toxic : x.announced.toxic ≡ bit_of (is_some t.active.conditions.bad_poison)
+  pub toxic_count : is_living (member_at t.active.place t) ≡ true → x.announced.toxic_count ≡ unwrap_or t.active.conditions.bad_poison 0
   pub invulnerable : x.invulnerable ≢ 0 → t.active.conditions.invulnerable ≡ true
+  pub unused : x.unused ≡ 0
   pub last_move : x.last_move ≡ current_move_of t
   pub recharge : t.active.conditions.underway.recharge ≡ true → recharges (move_at x.last_move).effect ≡ true
   pub rests : x.announced.recharging ≢ 0 → recharges (move_at x.last_move).effect ≡ true
@@ -200,11 +203,14 @@ MembersAgree = OfRuns λ one two r. SideHasAppeared (public_of r).one r.state.fi
 pub record HasCause (s : Seen) : Type 0 where
   pub asleep : s.status ≡ kind_number kinds.Sleep → (s.asleep_by ≡ 1) ⊎ (s.asleep_by ≡ 2)
   pub awake : s.status ≢ kind_number kinds.Sleep → (s.asleep_by ≢ 1) × (s.asleep_by ≢ 2)
+  pub rested : s.status ≢ kind_number kinds.Sleep → s.slept ≡ 0
 
--- The mark of the sleep clause is on it exactly if the clause is on and a move of the foe put it to sleep.
+-- The mark of the sleep clause is on it exactly if the clause is on and a move of the foe put it to sleep. The turns that it slept and those
+-- that are left are two by Rest, and seven at most by a move of the foe.
 pub record IsAsleepBy (clause : Bool) (s : Seen) (m : Member) : Type 0 where
   pub cause : HasCause s
   pub mark : is_marked m.status ≡ (clause && (s.status == kind_number kinds.Sleep && s.asleep_by == 1))
+  pub turns : (n : ℕ) (marked : Bool) → m.status ≡ Asleep n marked → (s.asleep_by ≡ 1 → s.slept + n ≤ 7) × (s.asleep_by ≡ 2 → s.slept + n ≡ 2)
 
 abbrev pub SideSleeps : Bool → PublicSide → Party → Type 0
 SideSleeps clause x t = (place : ℕ) → (seen_at place x).species ≢ 0 → IsAsleepBy clause (seen_at place x) (member_at place t)

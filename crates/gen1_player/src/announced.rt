@@ -1,13 +1,16 @@
 //! The conditions of an active member that the log has announced, and not ended (docs/MECHANICS.md, "What the log makes public").
 ghost use Rattle.std.specs.Prelude.{◌≡◌};
-ghost use Rattle.gen1_player.specs.Public.{ends_by_haze, gets_status, is_hurt_by, is_kept_by, nothing_announced, set_volatile};
+ghost use Rattle.gen1_player.specs.Public.{ends_by_haze, gets_status, is_hurt_by, is_kept_by, nothing_announced, set_volatile, worsens};
 
 use gen1_machine::{CantReason, DamageSource, Kind, Volatile};
 
 // The number of Toxic.
 const TOXIC: u8 = 92;
 
-/// Flags of the active member: 1 from the event that announces the condition on, 0 without it.
+// The most that the counter of bad poison counts.
+const MOST_TIMES: u8 = 64;
+
+/// Flags of the active member: 1 from the event that announces the condition on, 0 without it. `toxic_count` is no flag.
 #[repr(C)]
 #[derive(Clone, Copy, Debug, PartialEq, Eq, Drop)]
 pub struct Announced {
@@ -21,6 +24,9 @@ pub struct Announced {
     pub seeded: u8,
     /// Its poison is that of Toxic.
     pub toxic: u8,
+    /// The counter of that poison, 0 to 64: how often poison, a burn or Leech Seed has hurt the member since. The next of them is
+    /// multiplied by one more.
+    pub toxic_count: u8,
     pub disabled: u8,
     pub rage: u8,
     pub bide: u8,
@@ -42,6 +48,7 @@ impl Announced {
             reflect: 0,
             seeded: 0,
             toxic: 0,
+            toxic_count: 0,
             disabled: 0,
             rage: 0,
             bide: 0,
@@ -85,13 +92,28 @@ impl Announced {
         }
     }
 
-    /// Ends what damage of this source ends.
+    /// Ends what damage of this source ends, and counts residual damage.
     pub(crate) fn hurt(&mut self, source: DamageSource)
         ensures { self.new ≡ is_hurt_by source self.old }
     {
-        if matches!(source, DamageSource::Confusion) {
-            self.bide = 0;
-            self.charging = 0;
+        match source {
+            DamageSource::Confusion => {
+                self.bide = 0;
+                self.charging = 0;
+            }
+            DamageSource::Poison => self.worsen(),
+            DamageSource::Burn => self.worsen(),
+            DamageSource::LeechSeed => self.worsen(),
+            _ => {}
+        }
+    }
+
+    // Counts a hurt of bad poison.
+    fn worsen(&mut self)
+        ensures { self.new ≡ worsens self.old }
+    {
+        if self.toxic != 0 {
+            self.toxic_count = self.toxic_count.saturating_add(1).min(MOST_TIMES);
         }
     }
 
@@ -103,6 +125,7 @@ impl Announced {
             Kind::Poison => {
                 if last_move == TOXIC {
                     self.toxic = 1;
+                    self.toxic_count = 0;
                 }
             }
             Kind::Freeze => self.recharging = 0,
@@ -121,6 +144,7 @@ impl Announced {
         self.reflect = 0;
         self.seeded = 0;
         self.toxic = 0;
+        self.toxic_count = 0;
         self.disabled = 0;
     }
 }

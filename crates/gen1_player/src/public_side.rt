@@ -34,6 +34,8 @@ pub struct PublicSide {
     pub last_move: u8,
     /// 1 if Fly or Dig has taken the active member out of reach, which may outlast the move; else 0.
     pub invulnerable: u8,
+    /// 0.
+    pub unused: u8,
 }
 
 impl PublicSide {
@@ -49,6 +51,7 @@ impl PublicSide {
             last_move: 0,
             announced: Announced::nothing(),
             invulnerable: 0,
+            unused: 0,
         }
     }
 
@@ -65,7 +68,10 @@ impl PublicSide {
         }
         match *event {
             Event::Move(_, id, _) => self.use_move(id),
-            Event::Cant(_, why) => self.announced.keep(why),
+            Event::Cant(_, why) => {
+                self.show(self.active().kept(why));
+                self.announced.keep(why);
+            }
             Event::Damage(_, health, source) => {
                 self.set_hp(health.hp());
                 self.hurt(source);
@@ -98,7 +104,7 @@ impl PublicSide {
         }
     }
 
-    /// Ends what damage of this source ends.
+    /// Ends what damage of this source ends, and counts residual damage.
     pub(crate) fn hurt(&mut self, source: DamageSource)
         ensures { self.new ≡ takes_damage source self.old }
     {

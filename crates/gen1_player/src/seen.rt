@@ -1,9 +1,9 @@
 //! A member that has appeared, as the log showed it last (docs/MECHANICS.md, "What the log makes public").
 ghost use Rattle.std.specs.Prelude.{IfSome, length, ◌<◌, ◌≡◌};
 ghost use Rattle.std.specs.List.{position};
-ghost use Rattle.gen1_player.specs.Public.{is_afflicted, is_cured, is_overtaken, is_slot, has_fainted, may_rest, not_seen, put_to_sleep_by, uses_again};
+ghost use Rattle.gen1_player.specs.Public.{is_afflicted, is_cured, is_overtaken, is_slot, has_fainted, may_rest, not_seen, put_to_sleep_by, sleeps_on, uses_again};
 
-use gen1_machine::Kind;
+use gen1_machine::{CantReason, Kind};
 
 // The number of Rest.
 const REST: u8 = 156;
@@ -14,6 +14,9 @@ const BY_FOE: u8 = 1;
 const BY_REST: u8 = 2;
 
 const MAY_REST: u8 = 3;
+
+// The most turns that a member sleeps before the one in which it wakes.
+const MOST_TURNS: u8 = 6;
 
 /// A move that a member was seen to prepare or to use.
 #[repr(C)]
@@ -45,6 +48,11 @@ pub struct Seen {
     /// What put it to sleep: 1 a move of the foe, 2 its own Rest; 0 while it is awake. An awake member that has used Rest has 3 until it
     /// falls asleep, uses another move, or the foe uses one.
     pub asleep_by: u8,
+    /// How many turns it has slept, as the log showed, 0 to 6; 0 while it is awake. It wakes in the turn after 0 to 6 of them, after its Rest
+    /// in the turn after one.
+    pub slept: u8,
+    /// 0.
+    pub unused: u8,
 }
 
 impl Seen {
@@ -60,6 +68,8 @@ impl Seen {
             status: 0,
             moves: [SeenMove { id: 0, uses: 0 }; 5],
             asleep_by: 0,
+            slept: 0,
+            unused: 0,
         }
     }
 
@@ -87,6 +97,17 @@ impl Seen {
         seen
     }
 
+    /// The member after it was kept from acting: one more turn asleep.
+    pub(crate) fn kept(self, why: CantReason) -> Self
+        ensures { result ≡ sleeps_on why self }
+    {
+        let mut seen = self;
+        if matches!(why, CantReason::Asleep) {
+            seen.slept = seen.slept.saturating_add(1).min(MOST_TURNS);
+        }
+        seen
+    }
+
     /// The member with a status.
     pub(crate) fn afflicted(self, kind: Kind) -> Self
         ensures { result ≡ is_afflicted kind self }
@@ -95,6 +116,7 @@ impl Seen {
         seen.status = kind.number();
         if matches!(kind, Kind::Sleep) {
             seen.asleep_by = put_to_sleep_by(seen.asleep_by);
+            seen.slept = 0;
         }
         seen
     }
@@ -106,6 +128,7 @@ impl Seen {
         let mut seen = self;
         seen.status = 0;
         seen.asleep_by = 0;
+        seen.slept = 0;
         seen
     }
 

@@ -1,8 +1,8 @@
 //! What holds of all that a log makes public (docs/MECHANICS.md, "Player's view"), as functions that do nothing.
 ghost use Rattle.gen1_player.specs.True.{ConditionsAgree, ActivesAgree, MembersAgree, PlayersHoldThePublic, PublicAgrees, PublicAgreesWithView, SleepersAgree, UsesArePaid};
 
-/// After any run of a battle of two teams from its start, what its log made public agrees with the battle: active places, stages,
-/// Substitute, confusion, screens, turn, outcome, and HP and kind of status of each member that has appeared.
+/// After any run from the start, what its log made public agrees with the battle: active places, stages, Substitute, confusion, screens,
+/// turn, outcome, and HP and kind of status of each member that has appeared.
 #[tactic(auto, using(crate::proofs::Placing::agrees, crate::proofs::Placing::agrees_with_view))]
 pub fn public_agrees()
     ensures view { PublicAgreesWithView }
@@ -31,22 +31,21 @@ pub fn members_agree()
 {}
 
 /// After any run with valid terms and seed bytes that ended in no fault, Bide, charging and bad poison are announced exactly if they are
-/// on, and invulnerability only if it is. The last move is the current one; a member that has to recharge, or is announced so, used a move
-/// for it last. A move that continues, without PP, is not counted as a use.
+/// on, with the poison's counter while the member lives, and invulnerability only if it is. The last move is the current one; a member that
+/// has to recharge, or is announced so, used a move for it last. A move that continues, without PP, is not counted as a use.
 #[tactic(auto, using(crate::proofs::DeedRuns::actives_agree))]
 pub fn actives_agree()
     ensures { ActivesAgree }
 {}
 
 /// After any run from the start, a member is said to sleep, by Rest or by a move of the foe, exactly if it is shown asleep; it has the mark
-/// of the sleep clause exactly if by the latter, with the clause on.
+/// of the sleep clause exactly if by the latter, with the clause on. The turns that it slept and its count are 2 by Rest, else 7 at most.
 pub fn sleepers_agree()
     ensures { SleepersAgree }
 {}
 
-/// After any run with valid terms and seed bytes, the uses that were counted of a member's move are at most the PP that its slot has
-/// lost: uses and PP left are together at most the PP at the start, and 64 more for each rise from 0 to 63. Until PP rise so, the PP at
-/// the start less the uses are never below the PP left.
+/// After any run with valid terms and seed bytes, the uses that were counted of a member's move and its PP left are together at most the PP
+/// at the start, and 64 more for each rise from 0 to 63.
 #[tactic(auto, using(crate::proofs::SpendingTurns::uses_are_paid))]
 pub fn uses_are_paid()
     ensures { UsesArePaid }

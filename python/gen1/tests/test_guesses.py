@@ -68,6 +68,11 @@ def test_conditions_that_were_announced(player):
     told.feed(bytes([3, 2, 65, 99, 1, 128, 18, 2, 65, 12]))
     raging = Battle.from_player(told, [Member("Alakazam", ["Psychic", "Rage"])], SEED).state.two.active
     assert raging.conditions & Conditions.RAGE and (raging.current_move, raging.kept_accuracy) == (2, 255)
+    # Toxic, then damage by its poison and by Leech Seed.
+    told.feed(bytes([3, 1, 128, 92, 2, 65, 13, 2, 65, 2, 5, 2, 65, 13, 0, 57, 1, 2, 1]))
+    told.feed(bytes([18, 2, 65, 4, 5, 2, 65, 1, 0, 57, 1, 2, 3]))
+    poisoned = Battle.from_player(told, [Member("Alakazam", ["Psychic", "Rage"])], SEED).state.two.active
+    assert (told.foe.announced.toxic_count, poisoned.bad_poison) == (2, 2)
 
 
 def test_random_battles():

@@ -150,6 +150,23 @@ def test_what_put_a_member_to_sleep(player):
         assert seen_by(player, *events).active.asleep_by is by
 
 
+def test_turns_of_a_sleep(player):
+    """Each turn that the log shows it asleep counts, until it wakes, faints or falls asleep again."""
+    spore, sleeps, wakes, dozes = [3, 1, 128, 147, 2, 130], [13, 2, 130, 1], [14, 2, 130, 1], [4, 2, 130, 1]
+    seen_by(player, switch(1, 128, 1, 353, 353), switch(2, 130, 1, 393, 393))
+    for events, turns in (
+        ([spore, sleeps], 0),
+        ([dozes], 1),
+        ([dozes, dozes], 3),
+        ([spore, sleeps], 0),
+        ([dozes], 1),
+        ([wakes], 0),
+        ([spore, sleeps, *7 * [dozes]], 6),
+        ([[25, 2, 130]], 0),
+    ):
+        assert seen_by(player, *events).active.slept == turns
+
+
 def test_what_events_make_public(player):
     """Each event of the foe that changes what is public of it (docs/MECHANICS.md, "What the log makes public")."""
     gyarados = Seen(Species.GYARADOS, 100, 393, 393, Status.NONE, ())
@@ -380,6 +397,9 @@ def agrees(player, teller, battle, shown, side):
         eye.light_screen,
         eye.reflect,
     )
+    # Leech Seed raises the counter without an event once poison took the last HP.
+    out = theirs.active
+    assert told.toxic_count == out.bad_poison or not theirs.members[out.place - 1].hp
     own, active = player.own, mine.active
     assert (own.place, own.stats, own.stages, own.types, own.disabled_slot) == (
         active.place,
@@ -430,7 +450,7 @@ def test_copies(player, copied):
 
 def test_sizes_of_structs():
     """include/gen1.h, GEN1_OWN_SIDE_SIZE and GEN1_PLAYER_SIZE."""
-    assert (ctypes.sizeof(OwnSideStruct), ctypes.sizeof(PlayerStruct), ctypes.sizeof(TellerStruct)) == (172, 456, 8)
+    assert (ctypes.sizeof(OwnSideStruct), ctypes.sizeof(PlayerStruct), ctypes.sizeof(TellerStruct)) == (172, 484, 8)
 
 
 def test_logs_that_are_wrong(player):
@@ -602,7 +622,7 @@ def test_bytes_are_those_of_the_c_structs():
         pairs += 1
     room = known_table()[0]
     room.forfeit(2)
-    assert pairs == 25 and fnv(found, bytes(Room.from_bytes(bytes(room)))) == 0x7449E54FBF29F323
+    assert pairs == 25 and fnv(found, bytes(Room.from_bytes(bytes(room)))) == 0xFFF46D281D650C53
 
 
 def test_bytes_that_are_refused():
@@ -612,10 +632,10 @@ def test_bytes_that_are_refused():
     own = table[3].own
     assert OwnSide.from_bytes(bytes(own)) == own
     for it, at, byte, field in (
-        *((table[3], at, byte, field) for at, byte, field in ((4, 152, "species"), (1, 4, "hp"), (259, 7, "place"))),
+        *((table[3], at, byte, field) for at, byte, field in ((4, 152, "species"), (1, 4, "hp"), (286, 7, "place"))),
         *(
             (table[3], at, byte, field)
-            for at, byte, field in ((441, 16, "offered"), (444, 9, "held"), (442, 3, "side"))
+            for at, byte, field in ((469, 16, "offered"), (472, 9, "held"), (470, 3, "side"))
         ),
         *((table[1], at, byte, field) for at, byte, field in ((0, 0, "side"), (1, 3, "pixels"), (3, 1, "places"))),
         *(

@@ -1171,17 +1171,19 @@ mod players {
         LastMove(Side, u8),
         Attack(Side, u8),
         Evasion(Side, u8),
+        ToxicCount(Side, u8),
         /// Facts of the member at a place.
         Species(Side, u8, u8),
         Level(Side, u8, u8),
         Hp(Side, u8, u16),
         Max(Side, u8, u16),
         Status(Side, u8, u8),
+        Slept(Side, u8, u8),
         /// The move at an index from 0, and how often it was used.
         Used(Side, u8, usize, u8, u8),
     }
 
-    static PUBLIC: [Row; 19] = [
+    static PUBLIC: [Row; 21] = [
         Row {
             name: "before the first event nothing is public",
             steps: &[
@@ -1364,6 +1366,55 @@ mod players {
                 Step::Tells(Status(ONE, Kind::Poison)),
                 Step::Announced(ONE, &["toxic"]),
                 Step::Announced(TWO, &[]),
+            ],
+        },
+        Row {
+            name: "each turn of a sleep counts",
+            steps: &[
+                Step::Begin,
+                Step::Tells(Move(TWO, 95)),
+                Step::Tells(Status(ONE, Kind::Sleep)),
+                Step::Is(Fact::Slept(ONE, 1, 0)),
+                Step::Repeats(2, Cant(ONE, CantReason::Asleep)),
+                Step::Tells(Cant(TWO, CantReason::Flinched)),
+                Step::Is(Fact::Slept(ONE, 1, 2)),
+                Step::Is(Fact::Slept(TWO, 3, 0)),
+                // Another sleep begins again, and one in another place goes on.
+                Step::Tells(Status(ONE, Kind::Sleep)),
+                Step::Is(Fact::Slept(ONE, 1, 0)),
+                Step::Repeats(9, Cant(ONE, CantReason::Asleep)),
+                Step::Tells(Switch(ONE, TAUROS, 2, 353, 353, None)),
+                Step::Is(Fact::Slept(ONE, 1, 6)),
+                Step::Tells(Switch(ONE, TAUROS, 1, 353, 353, Some(Kind::Sleep))),
+                Step::Tells(Cure(ONE, Kind::Sleep)),
+                Step::Is(Fact::Slept(ONE, 1, 0)),
+            ],
+        },
+        Row {
+            name: "residual damage raises the counter of bad poison",
+            steps: &[
+                Step::Begin,
+                Step::Tells(Move(TWO, 92)),
+                Step::Tells(Status(ONE, Kind::Poison)),
+                Step::Is(Fact::ToxicCount(ONE, 0)),
+                // The example of docs/MECHANICS.md, "Residual damage"
+                Step::Tells(Damage(ONE, 331, 353, DamageSource::Poison)),
+                Step::Tells(Damage(ONE, 287, 353, DamageSource::LeechSeed)),
+                Step::Is(Fact::ToxicCount(ONE, 2)),
+                Step::Tells(Damage(ONE, 200, 353, DamageSource::Direct)),
+                Step::Tells(Damage(TWO, 300, 323, DamageSource::Burn)),
+                Step::Is(Fact::ToxicCount(ONE, 2)),
+                Step::Is(Fact::ToxicCount(TWO, 0)),
+                // A burn after a rest is worse too, and a new Toxic begins again.
+                Step::Tells(Damage(ONE, 134, 353, DamageSource::Burn)),
+                Step::Is(Fact::ToxicCount(ONE, 3)),
+                Step::Tells(Status(ONE, Kind::Poison)),
+                Step::Is(Fact::ToxicCount(ONE, 0)),
+                Step::Repeats(70, Damage(ONE, 134, 353, DamageSource::Poison)),
+                Step::Is(Fact::ToxicCount(ONE, 64)),
+                Step::Tells(ClearAll),
+                Step::Is(Fact::ToxicCount(ONE, 0)),
+                Step::Announced(ONE, &[]),
             ],
         },
         Row {
@@ -1604,6 +1655,9 @@ mod players {
             Fact::LastMove(side, _) => Fact::LastMove(side, side_of(public, side).last_move),
             Fact::Attack(side, _) => Fact::Attack(side, side_of(public, side).stages.attack),
             Fact::Evasion(side, _) => Fact::Evasion(side, side_of(public, side).stages.evasion),
+            Fact::ToxicCount(side, _) => {
+                Fact::ToxicCount(side, side_of(public, side).announced.toxic_count)
+            }
             _ => found_member(public, fact),
         }
     }
@@ -1621,6 +1675,7 @@ mod players {
             Fact::Hp(side, place, _) => Fact::Hp(side, place, seen(public, side, place).hp),
             Fact::Max(side, place, _) => Fact::Max(side, place, seen(public, side, place).max),
             Fact::Status(side, place, _) => Fact::Status(side, place, seen(public, side, place).status),
+            Fact::Slept(side, place, _) => Fact::Slept(side, place, seen(public, side, place).slept),
             Fact::Used(side, place, index, ..) => match seen(public, side, place).moves.get(index) {
                 Some(it) => Fact::Used(side, place, index, it.id, it.uses),
                 None => Fact::Turn(0),

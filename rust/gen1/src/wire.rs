@@ -144,13 +144,13 @@ structs! {
         request 2, outcome 5, count 6,
     }
     SeenMove { id 165, uses 255 }
-    Seen { hp 999, max 999, species 151, level 100, status 5, moves ANY, asleep_by 3 }
+    Seen { hp 999, max 999, species 151, level 100, status 5, moves ANY, asleep_by 3, slept 6, unused 0 }
     Announced {
-        substitute 1, confused 1, mist 1, focus_energy 1, light_screen 1, reflect 1, seeded 1, toxic 1, disabled 1, rage 1,
-        bide 1, charging 1, recharging 1,
+        substitute 1, confused 1, mist 1, focus_energy 1, light_screen 1, reflect 1, seeded 1, toxic 1, toxic_count 64,
+        disabled 1, rage 1, bide 1, charging 1, recharging 1,
     }
     PublicSide {
-        members ANY, announced ANY, stages 12, place 6, first_type 14, second_type 14, last_move 165, invulnerable 1,
+        members ANY, announced ANY, stages 12, place 6, first_type 14, second_type 14, last_move 165, invulnerable 1, unused 0,
     }
     Public { one ANY, two ANY, turn 9999, outcome 5, may_hit_itself 2 }
     PlainPlayer { public ANY, own ANY, offered 0xfff, side 2, foes 6, held_count 9, held 255, unused 0 }
@@ -258,7 +258,7 @@ impl Notice {
 
 impl Player {
     /// How many bytes a player has.
-    pub const LENGTH: usize = 456;
+    pub const LENGTH: usize = 484;
 
     /// The bytes of the `gen1_player`: everything that the side may know.
     #[must_use]

@@ -1,6 +1,6 @@
 //! Players: battles of a player's view are accepted and offer the same, and nothing hidden reaches a player.
 use gen1::{
-    Battle, Choice, Conditions, DamageSource, Event, Guess, GuessFault, LogBuf, LogFault,
+    AsleepBy, Battle, Choice, Conditions, DamageSource, Event, Guess, GuessFault, LogBuf, LogFault,
     MemberSpec, MoveId, Player, ReportFault, Side, Species, State, Team, Teller, UsedMove,
     Volatile, Who, member,
 };
@@ -330,7 +330,7 @@ fn count_unseen(events: &[Event], before: &State, after: &State, side: usize) ->
 #[test]
 fn announced_conditions_are_those_of_the_battle() {
     let mut dice = Dice(31);
-    let mut unseen = 0;
+    let (mut unseen, mut highest, mut longest) = (0, 0, 0);
     for _ in 0..1_000 {
         let teams = [0; 2].map(|_| Team::new(&[dice.announcer(), dice.announcer()]).unwrap());
         let mut battle = Battle::new(&teams[0], &teams[1], dice.numbers());
@@ -362,6 +362,18 @@ fn announced_conditions_are_those_of_the_battle() {
                         "{which:?} of {side:?}: {update:?}"
                     );
                 }
+                // Leech Seed raises the counter without an event once poison took the last HP.
+                let member = state.sides[at].member_out().unwrap();
+                assert!(member.hp == 0 || active.bad_poison.unwrap_or(0) == it.toxic_count);
+                highest = highest.max(it.toxic_count);
+                // A sleep by Rest has a count of 2, and one by a move of the foe at most 7.
+                let seen = &public.members[usize::from(public.place) - 1];
+                match (member.sleep, seen.asleep_by()) {
+                    (Some(left), Some(AsleepBy::Rest)) => assert_eq!(left + seen.slept, 2),
+                    (Some(left), _) => assert!(left + seen.slept <= 7),
+                    (None, _) => assert_eq!(seen.slept, 0),
+                }
+                longest = longest.max(seen.slept);
                 // A flinch ends recharging without an event.
                 assert!(it.recharging == 1 || !on.has(Conditions::RECHARGE));
                 if let (1, UsedMove::Slot(slot)) = (it.charging, active.current_move) {
@@ -383,4 +395,6 @@ fn announced_conditions_are_those_of_the_battle() {
         }
     }
     assert!(unseen > 0, "{unseen} hits that no event reported");
+    assert!(highest > 2, "a counter of {highest} at most");
+    assert_eq!(longest, 6);
 }

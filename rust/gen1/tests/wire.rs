@@ -170,7 +170,7 @@ fn the_bytes_are_those_of_the_c_structs() {
     let mut room = known_table().room;
     room.forfeit(Side::Two).unwrap();
     assert_eq!(pairs, 25);
-    assert_eq!(hash(all, &room.to_bytes()), 0x7449_e54f_bf29_f323);
+    assert_eq!(hash(all, &room.to_bytes()), 0xfff4_6d28_1d65_0c53);
 }
 
 /// Random battles to their end: at each step a table from bytes is the one that was stored, and continues as it does.
@@ -220,9 +220,9 @@ type Cases = &'static [(&'static str, &'static [&'static [(usize, u8)]])];
 
 const OF_A_PLAYER: Cases = {
     const OWN: usize = 0;
-    const FOE: usize = 132;
-    const KNOWN: usize = 264;
-    const SHOWN: usize = 268;
+    const FOE: usize = 146;
+    const KNOWN: usize = 292;
+    const SHOWN: usize = 296;
     &[
         ("", &[&[], &[(OWN, 0), (OWN + 1, 0)]]),
         ("hp", &[&[(OWN + 1, 3)], &[(FOE, 255), (FOE + 1, 1)]]),
@@ -238,7 +238,7 @@ const OF_A_PLAYER: Cases = {
             &[
                 &[(OWN + 4, 152)],
                 &[(OWN + 4, 0)],
-                &[(FOE + 18, 1)],
+                &[(FOE + 20, 1)],
                 &[(SHOWN, 152)],
                 &[(SHOWN, 0)],
             ],
@@ -256,26 +256,31 @@ const OF_A_PLAYER: Cases = {
         ("id", &[&[(FOE + 7, 166)], &[(FOE + 15, 166)]]),
         ("uses", &[&[(FOE + 16, 1)]]),
         ("asleep_by", &[&[(FOE + 17, 4)]]),
-        ("unused", &[&[(SHOWN + 3, 1)], &[(455, 1)]]),
-        ("substitute", &[&[(FOE + 108, 2)]]),
-        ("recharging", &[&[(OWN + 120, 2)]]),
+        ("slept", &[&[(FOE + 18, 7)]]),
+        (
+            "unused",
+            &[&[(FOE + 145, 1)], &[(SHOWN + 3, 1)], &[(483, 1)]],
+        ),
+        ("substitute", &[&[(FOE + 120, 2)]]),
+        ("toxic_count", &[&[(FOE + 128, 65)]]),
+        ("recharging", &[&[(OWN + 133, 2)]]),
         (
             "stages",
-            &[&[(FOE + 121, 13)], &[(FOE + 126, 13)], &[(SHOWN + 161, 13)]],
+            &[&[(FOE + 134, 13)], &[(FOE + 139, 13)], &[(SHOWN + 161, 13)]],
         ),
         (
             "place",
             &[
-                &[(FOE + 127, 7)],
-                &[(FOE + 127, 2)],
+                &[(FOE + 140, 7)],
+                &[(FOE + 140, 2)],
                 &[(SHOWN + 158, 3)],
                 &[(SHOWN + 158, 7)],
             ],
         ),
-        ("first_type", &[&[(FOE + 128, 15)]]),
-        ("second_type", &[&[(FOE + 129, 15)]]),
-        ("last_move", &[&[(FOE + 130, 166)]]),
-        ("invulnerable", &[&[(FOE + 131, 2)]]),
+        ("first_type", &[&[(FOE + 141, 15)]]),
+        ("second_type", &[&[(FOE + 142, 15)]]),
+        ("last_move", &[&[(FOE + 143, 166)]]),
+        ("invulnerable", &[&[(FOE + 144, 2)]]),
         (
             "turn",
             &[
@@ -311,9 +316,9 @@ const OF_A_PLAYER: Cases = {
             "held",
             &[
                 &[(SHOWN + 168, 2)],
-                &[(445, 1)],
-                &[(444, 1), (445, 29)],
-                &[(444, 1), (445, 0x1b)],
+                &[(473, 1)],
+                &[(472, 1), (473, 29)],
+                &[(472, 1), (473, 0x1b)],
             ],
         ),
         ("request", &[&[(SHOWN + 169, 3)]]),
@@ -325,10 +330,10 @@ const OF_A_PLAYER: Cases = {
                 &[(SHOWN + 24 * 2 + 12, 1)],
             ],
         ),
-        ("offered", &[&[(441, 16)], &[(440, 255), (441, 3)]]),
-        ("side", &[&[(442, 0)], &[(442, 3)]]),
-        ("foes", &[&[(443, 7)]]),
-        ("held_count", &[&[(444, 10)]]),
+        ("offered", &[&[(469, 16)], &[(468, 255), (469, 3)]]),
+        ("side", &[&[(470, 0)], &[(470, 3)]]),
+        ("foes", &[&[(471, 7)]]),
+        ("held_count", &[&[(472, 10)]]),
     ]
 };
 

@@ -304,10 +304,12 @@ class SeenStruct(Structure):
         ("status", c_uint8),
         ("moves", SeenMoveStruct * 5),
         ("asleep_by", c_uint8),
+        ("slept", c_uint8),
+        ("unused", c_uint8),
     ]
 
 
-# The flags of gen1_announced, in its order.
+# The conditions of gen1_announced in its order, each a flag but the counter of bad poison.
 ANNOUNCED = (
     "substitute",
     "confused",
@@ -317,6 +319,7 @@ ANNOUNCED = (
     "reflect",
     "seeded",
     "toxic",
+    "toxic_count",
     "disabled",
     "rage",
     "bide",
@@ -343,6 +346,7 @@ class PublicSideStruct(Structure):
         ("second_type", c_uint8),
         ("last_move", c_uint8),
         ("invulnerable", c_uint8),
+        ("unused", c_uint8),
     ]
 
 
@@ -484,10 +488,27 @@ _MOST: dict[str, dict[str, int]] = {
         **{"disabled_slot": 4, "held": 1, "request": 2, "outcome": 5, "count": 6},
     },
     "SeenMoveStruct": {"id": 165},
-    "SeenStruct": {"hp": 999, "max": 999, "species": 151, "level": 100, "status": 5, "asleep_by": 3},
-    "AnnouncedStruct": dict.fromkeys(ANNOUNCED, 1),
+    "SeenStruct": {
+        "hp": 999,
+        "max": 999,
+        "species": 151,
+        "level": 100,
+        "status": 5,
+        "asleep_by": 3,
+        "slept": 6,
+        "unused": 0,
+    },
+    "AnnouncedStruct": dict.fromkeys(ANNOUNCED, 1) | {"toxic_count": 64},
     "PublicSideStruct": {
-        **{"stages": 12, "place": 6, "first_type": 14, "second_type": 14, "last_move": 165, "invulnerable": 1},
+        **{
+            "stages": 12,
+            "place": 6,
+            "first_type": 14,
+            "second_type": 14,
+            "last_move": 165,
+            "invulnerable": 1,
+            "unused": 0,
+        },
     },
     "PublicStruct": {"turn": 9999, "outcome": 5, "may_hit_itself": 2},
     "PlayerStruct": {"offered": 0xFFF, "side": 2, "foes": 6, "held_count": 9, "unused": 0},

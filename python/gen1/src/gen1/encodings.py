@@ -209,6 +209,8 @@ def _own_active(side: int) -> Iterator[_Cell]:
 def _foe_active(foe: int) -> Iterator[_Cell]:
     of, it = _public(foe), PublicSideStruct
     for at, name in enumerate(ANNOUNCED):
+        if name == "toxic_count":
+            continue
         yield _flag(f"foe {name}", of + it.announced.offset + at, "whether it is announced of the active member", 1)
     for at, stat in enumerate(STAGES):
         yield _stage(f"foe {stat}", of + it.stages.offset + at)

@@ -58,7 +58,9 @@ class Seen:
 
     `hp` is 0 to `max_hp`, which is 48 or 100 for a foe whose HP is given as
     the bar or in hundredths. `asleep_by` is what put it to sleep, None
-    while it is awake. `moves` are those that it was seen to prepare or to
+    while it is awake, and `slept` how many turns it has slept, 0 to 6: it
+    wakes in the turn after these, or after one of them by its own Rest.
+    `moves` are those that it was seen to prepare or to
     use, at most five (four and Struggle), in the order in which they were
     first seen.
     """
@@ -70,6 +72,7 @@ class Seen:
     status: Status
     moves: tuple[SeenMove, ...]
     asleep_by: AsleepBy | None = None
+    slept: int = 0
 
 
 @dataclass(frozen=True)
@@ -78,8 +81,10 @@ class Announced:
     ended.
 
     `seeded` is Leech Seed, and `toxic` says that its poison is that of
-    Toxic. The move of `charging` is the last move. `invulnerable` is out of
-    reach by Fly or Dig, which may outlast the move.
+    Toxic. `toxic_count` is the counter of that poison, 0 to 64: the next
+    damage by poison, a burn or Leech Seed is multiplied by one more. The
+    move of `charging` is the last move. `invulnerable` is out of reach by
+    Fly or Dig, which may outlast the move.
     """
 
     substitute: bool
@@ -96,6 +101,7 @@ class Announced:
     charging: bool
     recharging: bool
     invulnerable: bool
+    toxic_count: int = 0
 
 
 @dataclass(frozen=True)
@@ -137,7 +143,7 @@ class Player:
 
     Two players are equal if they know the same and hold the same bytes of
     an incomplete event; a player has no hash. A player must be used by one
-    thread at a time. `bytes` of a player are the 456 bytes of a
+    thread at a time. `bytes` of a player are the 484 bytes of a
     `gen1_player`, and `from_bytes` is the way back.
     """
 
@@ -440,7 +446,9 @@ def _seen(held: bytes) -> Seen:
     pairs = zip(of["moves"][::2], of["moves"][1::2])
     moves = tuple([SeenMove(_MOVE[number], uses) for number, uses in pairs if number])
     by = _ASLEEP_BY.get(of["asleep_by"])
-    return Seen(_SPECIES[of["species"]], of["level"], of["hp"], of["max"], _STATUS[of["status"]], moves, by)
+    return Seen(
+        _SPECIES[of["species"]], of["level"], of["hp"], of["max"], _STATUS[of["status"]], moves, by, of["slept"]
+    )
 
 
 @lru_cache(KEPT)
@@ -448,7 +456,9 @@ def _public(held: bytes) -> PublicSide:
     """The public side with these bytes, which is asked for more than once a turn."""
     of = _PUBLIC(held)
     seen = [_seen(it) if it != _NOBODY else None for it in _SEEN_BY_PLACE(of["members"])]
-    flags = dict(zip(ANNOUNCED, map(bool, of["announced"])))
+    told = dict(zip(ANNOUNCED, of["announced"]))
+    count = told.pop("toxic_count")
+    flags = {name: bool(flag) for name, flag in told.items()}
     return PublicSide(
         members=tuple([it for it in seen if it]),
         place=of["place"],
@@ -456,7 +466,7 @@ def _public(held: bytes) -> PublicSide:
         stages=stages_of(of["stages"]),
         types=(_TYPE[of["first_type"]], _TYPE[of["second_type"]]),
         last_move=_MOVE[of["last_move"]] if of["last_move"] else None,
-        announced=Announced(**flags, invulnerable=bool(of["invulnerable"])),
+        announced=Announced(**flags, invulnerable=bool(of["invulnerable"]), toxic_count=count),
     )
 
 

@@ -47,12 +47,14 @@ mod active {
         pub(crate) types: [u8; 2],
         pub(crate) stages: [u8; 6],
         pub(crate) disabled_slot: u8,
+        /// The counter of bad poison.
+        pub(crate) bad_poison: u8,
         /// The number of the move that it used or prepared last; 0 for none.
         pub(crate) last_move: u8,
     }
 
-    /// The player's own active member: as it was shown.
-    pub(crate) fn own_known(own: &OwnSide, last_move: u8) -> Known {
+    /// The player's own active member: as it was shown, and as the log made public.
+    pub(crate) fn own_known(own: &OwnSide, seen: &PublicSide) -> Known {
         Known {
             conditions: own.conditions,
             stats: own.stats,
@@ -60,7 +62,8 @@ mod active {
             types: own.types,
             stages: own.stages,
             disabled_slot: own.disabled_slot,
-            last_move,
+            bad_poison: seen.announced.toxic_count,
+            last_move: seen.last_move,
         }
     }
 
@@ -84,6 +87,7 @@ mod active {
                 is_on(foe.announced.disabled),
                 blocked_slot(member, foe.last_move),
             ),
+            bad_poison: foe.announced.toxic_count,
             last_move: foe.last_move,
         }
     }
@@ -174,7 +178,7 @@ mod active {
             confusion: on(has(conditions, CONFUSED), 3),
             disabled_slot: known.disabled_slot,
             disabled_turns: on(has(conditions, DISABLED), 4),
-            bad_poison: on(has(conditions, BAD_POISON), 1),
+            bad_poison: on(has(conditions, BAD_POISON), known.bad_poison),
             turns: on(counts, 2),
         }
     }
@@ -320,7 +324,7 @@ mod forks {
 
     fn own_part(clause: bool, own: &OwnSide, public: &PublicSide) -> SideState {
         let members = own_members(clause, &public.members, &own.members);
-        let known = own_known(own, public.last_move);
+        let known = own_known(own, public);
         let active = active_state(&known, &member_at(own.place, &members));
         SideState { members, active }
     }
@@ -419,7 +423,7 @@ mod members {
             species: shown.species,
             level: shown.level,
             status: shown.status,
-            sleep: sleep_of(shown.status, seen.asleep_by),
+            sleep: sleep_of(shown.status, seen),
             marked: mark_of(clause, shown.status, seen.asleep_by),
             moves: shown.moves,
             pp: shown.pp,
@@ -429,14 +433,20 @@ mod members {
         }
     }
 
-    // The turns of sleep left: a middle count, or those of Rest.
-    fn sleep_of(status: u8, asleep_by: u8) -> u8 {
-        if status != ASLEEP {
-            0
-        } else if asleep_by == BY_REST {
-            2
+    fn sleep_of(status: u8, seen: &Seen) -> u8 {
+        if status == ASLEEP {
+            turns_left(seen.asleep_by, seen.slept)
         } else {
-            3
+            0
+        }
+    }
+
+    // The turns of sleep left after some: those of Rest, or a middle count, while as many may be left.
+    fn turns_left(asleep_by: u8, slept: u8) -> u8 {
+        if asleep_by == BY_REST {
+            2u8.saturating_sub(slept).max(1)
+        } else {
+            7u8.saturating_sub(slept).min(3).max(1)
         }
     }
 
@@ -548,7 +558,7 @@ mod members {
     fn told(clause: bool, seen: &Seen, fresh: &MemberState) -> MemberState {
         MemberState {
             status: seen.status,
-            sleep: sleep_of(seen.status, seen.asleep_by),
+            sleep: sleep_of(seen.status, seen),
             marked: mark_of(clause, seen.status, seen.asleep_by),
             pp: pp_left(&seen.moves, fresh),
             hp: hp_of(seen.hp, seen.max, fresh.max_hp),
