@@ -347,7 +347,8 @@ enum {
     GEN1_ERROR_NOT_GOING_ON = 96,   /* the player is in no battle that has begun and is not over */
     GEN1_ERROR_GUESS_COUNT = 97,    /* the guessed team does not have as many members as the foe */
     GEN1_ERROR_GUESS_MEMBER = 98,   /* a member of the guessed team is not the one that appeared */
-    GEN1_ERROR_GUESS_MOVE = 99      /* a member of the guessed team does not know a move that it was seen to use */
+    GEN1_ERROR_GUESS_MOVE = 99,     /* a member of the guessed team does not know a move that it was seen to use */
+    GEN1_ERROR_GUESS_HP = 100       /* the maximum HP of a member of the guessed team does not allow the HP that the player was told */
 };
 
 /* The size of a buffer that holds any sentence of gen1_error_text or gen1_next_sentence, and its NUL. */
@@ -1595,7 +1596,7 @@ typedef struct gen1_player {
     uint8_t foes;       /* how many members the foe has, 1 to 6; 0 if unknown */
     uint8_t held_count; /* 0 to 9: how many bytes of `held` are in use */
     uint8_t held[10];   /* the bytes of an incomplete event */
-    uint8_t unused;     /* 0 */
+    uint8_t hp_form;    /* how the foe's HP is reported to it: GEN1_HP_EXACT, GEN1_HP_BAR or GEN1_HP_HUNDREDTHS */
 } gen1_player;
 
 #define GEN1_PLAYER_SIZE 484 /* the size of a gen1_player, for other languages; its alignment is 4 */
@@ -1619,12 +1620,12 @@ typedef struct gen1_teller {
 
 /*
  * Sets a player to what it knows before a battle: its own team, at full HP. `foes` is the number of the foe's members, or 0 if the
- * player should not know it.
+ * player should not know it. `hp_form` is that of its teller.
  *
  * Returns 0; or GEN1_ERROR_SIDE, GEN1_ERROR_FOES (`foes` is above 6), or the error of the team as gen1_new returns it. Then nothing
  * has changed.
  */
-uint32_t gen1_player_begin(gen1_player *player, uint8_t side, const gen1_team *team, uint8_t foes);
+uint32_t gen1_player_begin(gen1_player *player, uint8_t side, const gen1_team *team, uint8_t foes, uint8_t hp_form);
 
 /*
  * Feeds a player the next `count` of the bytes that gen1_tell wrote for its side, cut anywhere. Returns 0; or GEN1_ERROR_LOG_TAG or
@@ -1652,7 +1653,7 @@ typedef struct gen1_guess {
 typedef struct gen1_guess_fault {
     gen1_state_fault state; /* GEN1_ERROR_STATE: the field of the state that is wrong */
     uint8_t count;          /* GEN1_ERROR_GUESS_COUNT: how many members the foe has */
-    uint8_t member;         /* GEN1_ERROR_GUESS_MEMBER, GEN1_ERROR_GUESS_MOVE: which member, in the order of appearance, from 1 */
+    uint8_t member;         /* GEN1_ERROR_GUESS_MEMBER, _MOVE and _HP: which member, in the order of appearance, from 1 */
     uint8_t move_number;    /* GEN1_ERROR_GUESS_MOVE: the move */
     uint8_t unused;         /* 0 */
 } gen1_guess_fault;
@@ -1662,7 +1663,7 @@ typedef struct gen1_guess_fault {
  * doesn't cheat (docs/MECHANICS.md, "A battle that fits"). The player may have any bytes.
  *
  * Returns 0; or GEN1_ERROR_RULES, GEN1_ERROR_TURN_LIMIT or the error of the team as gen1_new returns it for one team, with GEN1_CODE_OF
- * and GEN1_PLACE_OF; or GEN1_ERROR_NOT_GOING_ON to GEN1_ERROR_GUESS_MOVE or GEN1_ERROR_STATE, and then `*fault` says what does not fit.
+ * and GEN1_PLACE_OF; or GEN1_ERROR_NOT_GOING_ON to GEN1_ERROR_GUESS_HP or GEN1_ERROR_STATE, and then `*fault` says what does not fit.
  * Otherwise `*fault` does not change. With an error `*battle` does not change.
  */
 uint32_t gen1_battle_from_player(gen1_battle *battle, const gen1_player *player, const gen1_guess *guess, gen1_guess_fault *fault);

@@ -175,7 +175,8 @@ export function sideOf(value, what = "side") {
   throw new ArgumentError(`${what} is ${value}, not 1 or 2`, what);
 }
 
-const FORMS = ["exact", "bar", "hundredths"];
+/** The forms of HP by their numbers. */
+export const FORMS = ["exact", "bar", "hundredths"];
 
 /** The number of a form of HP; `otherwise` where none is given. */
 export function formOf(value, otherwise, what) {

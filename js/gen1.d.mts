@@ -833,6 +833,8 @@ export class Host {
   private constructor();
   /** The number of the current pair: how many have ended. */
   readonly number: number;
+  /** The form in which HP of a foe is reported. */
+  readonly hpForm: HpForm;
   /** Whether nothing more can happen: the battle is over, a side has forfeited, or both have agreed on a draw. */
   readonly isClosed: boolean;
   /** The outcome, and the request to each side. It is for the host; a side has its own in its message. */
@@ -923,6 +925,8 @@ export class Spectator {
 export class Player {
   private constructor();
   readonly side: Side;
+  /** The form in which the HP of the foe's members is reported to it. */
+  readonly hpForm: HpForm;
   /** A copy of its gen1_player (include/gen1.h). */
   readonly bytes: Uint8Array;
   /** Its knowledge, decoded each time it is read. */
@@ -949,6 +953,8 @@ export class Player {
 export class Teller {
   private constructor();
   readonly side: Side;
+  /** The form in which it reports the HP of the foe's members. */
+  readonly hpForm: HpForm;
   /** A copy of its gen1_teller (include/gen1.h). */
   readonly bytes: Uint8Array;
   clone(): Teller;
@@ -958,7 +964,8 @@ export class Teller {
    */
   tell(log: Uint8Array | ArrayBuffer): Uint8Array;
   /**
-   * Reports the log of an update to a player of its side, and shows it its own side and its choices. Throws LogError, and ArgumentError for a
+   * Reports the log of an update to a player of its side, and shows it its own side and its choices. The player's `hpForm` becomes the teller's.
+   * Throws LogError, and ArgumentError for a
    * player with another team and for a log that does not lead to the battle's turn, as one that was skipped or repeated.
    */
   report(battle: Battle, log: Uint8Array | ArrayBuffer, player: Player): void;
@@ -1026,8 +1033,11 @@ export class Gen1 {
   noticeOfJSON(json: NoticeJSON): Notice;
   /** Creates a spectator of a battle of two teams, before its start. Throws TeamError. */
   spectator(one: Team | Members, two: Team | Members): Spectator;
-  /** Creates a player of a side, before the first update. `foes` is the number of the foe's members, if the player may know it. Throws TeamError. */
-  player(terms: { side: Side; team: Team | Members; foes?: number }): Player;
+  /**
+   * Creates a player of a side, before the first update. `foes` is the number of the foe's members, if the player may know it. `hpForm` is that of its
+   * teller or host, by default the bar. Throws TeamError.
+   */
+  player(terms: { side: Side; team: Team | Members; foes?: number; hpForm?: HpForm }): Player;
   /** The player whose `bytes` these are. Throws ArgumentError for another number of bytes; no more is tested. */
   playerOfBytes(bytes: Uint8Array | ArrayBuffer): Player;
   /** The teller whose `bytes` these are. Throws as `playerOfBytes`. */

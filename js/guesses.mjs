@@ -34,6 +34,11 @@ function misfit(code, {state, count, member, moveNumber}, team, {members}) {
         `guess.team must have ${count} members, as many as the foe has, not ${team.length}`, "guess.team");
   if (code === CODES.ERROR_GUESS_MOVE)
     return new ArgumentError(`${at} must know ${MOVES[moveNumber - 1]}, which it was seen to use`, at);
+  if (code === CODES.ERROR_GUESS_HP) {
+    const {hp, maxHp} = members[member - 1];
+    return new ArgumentError(
+        `${at} must have a maximum HP that allows ${hp} of ${maxHp} HP, as the player was told`, at);
+  }
   if (code !== CODES.ERROR_GUESS_MEMBER) return stateError(state, UNSEEN);
   if (member > team.length)
     return new ArgumentError(

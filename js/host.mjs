@@ -1,6 +1,6 @@
 // A battle of two players and an audience, each of whom is sent what it may know (docs/MECHANICS.md, "Hosts").
 import {BATTLE_SIZE} from "./arena.mjs";
-import {choiceBytesIn, choicesIn, choiceText, formOf, inspected, list, maskOf, octets, record, sideOf, truth, wrongType} from "./arguments.mjs";
+import {choiceBytesIn, choicesIn, choiceText, formOf, FORMS, inspected, list, maskOf, octets, record, sideOf, truth, wrongType} from "./arguments.mjs";
 import {Battle} from "./battle.mjs";
 import {ArgumentError, HostError, LoadError} from "./errors.mjs";
 import {CODES} from "./header.mjs";
@@ -10,6 +10,7 @@ import {made} from "./update.mjs";
 import {OUTCOMES, ownSideOf, REQUESTS, resultOf} from "./views.mjs";
 
 const OPTIONS = ["exactHp", "mayCancel", "lateForfeits"];
+const [HOST, TELLER] = ["gen1_host", "gen1_teller"].map(offsetsOf);
 
 /** The bytes of a host of a battle, which is started at once if it has not begun. */
 export function hostOf(library, battle, options) {
@@ -256,6 +257,11 @@ export class Host {
   /** The number of the current pair: how many have ended. */
   get number() {
     return this.#library.calls.gen1_host_number(this.#put()) >>> 0;
+  }
+
+  /** The form in which HP of a foe is reported. */
+  get hpForm() {
+    return FORMS[this.#bytes[HOST.one + TELLER.pixels]];
   }
 
   /** The outcome so far, and the request to each side. */

@@ -1,5 +1,5 @@
 // The knowledge that one side of a battle may have, and the teller that reports to it (docs/MECHANICS.md, "Player's view").
-import {choicesIn, formOf, inspected, octets, record, sideOf, truth, within, wrongType} from "./arguments.mjs";
+import {choicesIn, formOf, FORMS, inspected, octets, record, sideOf, truth, within, wrongType} from "./arguments.mjs";
 import {Battle} from "./battle.mjs";
 import {ArgumentError} from "./errors.mjs";
 import {logErrorAfter} from "./events.mjs";
@@ -15,11 +15,13 @@ const MOST_FOES = 6;
 
 /** The bytes of a player before a battle. */
 export function playerOf(library, terms) {
-  const {side, team, foes = 0} = record(terms, "terms", "an object with side and team", ["side", "team", "foes"]);
+  const {side, team, foes = 0, hpForm} =
+      record(terms, "terms", "an object with side and team", ["side", "team", "foes", "hpForm"]);
   const [own, given, number] = [sideOf(side), teamGiven(library, team, "team"), within(foes, "foes", 0, MOST_FOES)];
+  const form = formOf(hpForm, "bar", "hpForm");
   library.begin();
   const player = library.roomOf("gen1_player");
-  const answer = library.calls.gen1_player_begin(player, own, teamAt(library, given), number);
+  const answer = library.calls.gen1_player_begin(player, own, teamAt(library, given), number, form);
   // The code names a member, but no side.
   if (answer)
     throw teamError(
@@ -40,7 +42,7 @@ export function tellerOf(library, terms) {
 /** The library of a player. */
 export let libraryOf;
 // The turn by the log; the turn of the player's own side as it was last shown, whether it begins a turn, and whether it is the log's; and a
-// player that becomes another.
+// player that becomes another, with a form of HP.
 let turnsOf;
 let become;
 // The team of a player by the log, as text.
@@ -79,8 +81,9 @@ export class Player {
     };
     knownTo = (player) =>
         membersAt(player.#bytes, PLAYER.known + PUBLIC.sides + (player.side - 1) * PUBLIC_SIDE.size, SEEN);
-    become = (player, other) => {
+    become = (player, other, hpForm) => {
       player.#bytes = other.#bytes;
+      player.#bytes[PLAYER.hpForm] = FORMS.indexOf(hpForm);
     };
   }
 
@@ -101,6 +104,11 @@ export class Player {
   /** The side that it plays. */
   get side() {
     return this.#field("side");
+  }
+
+  /** The form in which the HP of the foe's members is reported to it. */
+  get hpForm() {
+    return FORMS[this.#field("hp_form")];
   }
 
   /** Its knowledge, decoded when it is read. */
@@ -191,6 +199,11 @@ export class Teller {
     return fieldOf("gen1_teller", "side", this.#bytes, this.#library.isLong);
   }
 
+  /** The form in which it reports the HP of the foe's members. */
+  get hpForm() {
+    return FORMS[fieldOf("gen1_teller", "pixels", this.#bytes, this.#library.isLong)];
+  }
+
   /** An independent copy that has reported the same. */
   clone() {
     return new Teller(this.#library, this.#bytes.slice());
@@ -211,7 +224,7 @@ export class Teller {
     return library.read(told, library.sizeAt(length));
   }
 
-  /** Reports the log of an update to a player of its side, and shows it its own side and its choices as they are now. */
+  /** Reports the log of an update to a player of its side, and shows it its own side and its choices as they are now. Its form of HP becomes the teller's. */
   report(battle, log, player) {
     if (!(battle instanceof Battle)) throw wrongType(battle, "battle", "a Battle");
     if (!(player instanceof Player)) throw wrongType(player, "player", "a Player");
@@ -228,6 +241,6 @@ export class Teller {
               before}, is at ${told} after the log, and the battle at ${shown}`,
           "log");
     this.#bytes = next.#bytes;
-    become(player, informed);
+    become(player, informed, this.hpForm);
   }
 }

@@ -4,7 +4,7 @@
 //     import { loadShowdown } from "gen1/showdown";
 //     const showdown = await loadShowdown();
 //     const members = showdown.members("Bob|Tauros|||bodyslam,rest|||||||");
-import {choiceOf, freshNumbers, list, octets, record, seedOf, shown, sideOf, text, truth, within, wrongType} from "./arguments.mjs";
+import {choiceOf, FORMS, freshNumbers, list, octets, record, seedOf, shown, sideOf, text, truth, within, wrongType} from "./arguments.mjs";
 import {Battle} from "./battle.mjs";
 import {ArgumentError, FreedError, Gen1Error, ModuleError, TeamError} from "./errors.mjs";
 import {Host, Message, Notice} from "./host.mjs";
@@ -444,7 +444,8 @@ export class Follower {
     const seen = this.#read.seen.map(([species, level]) => ({species, level, moves: ["Tackle"]}));
     const team = this.#members?.map(({nickname, ...member}) => member) ?? seen;
     const {count} = this.side(this.#side === 1 ? 2 : 1);
-    const player = gen1.player({side: this.#side, team, ...(count === null ? {} : {foes: count})});
+    const hpForm = FORMS[this.#read.hp_form];
+    const player = gen1.player({side: this.#side, team, hpForm, ...(count === null ? {} : {foes: count})});
     player.feed(this.log);
     return player;
   }

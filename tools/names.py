@@ -121,9 +121,9 @@ CODES = (
         "GuessFault",
         "Why a guess of what a player can't know does not fit.",
         "ERROR_NOT_GOING_ON",
-        "ERROR_GUESS_MOVE",
+        "ERROR_GUESS_HP",
         "ERROR_",
-        {"GUESS_COUNT": "COUNT", "GUESS_MEMBER": "MEMBER", "GUESS_MOVE": "MOVE"},
+        {"GUESS_COUNT": "COUNT", "GUESS_MEMBER": "MEMBER", "GUESS_MOVE": "MOVE", "GUESS_HP": "HP"},
     ),
     ("RowKind", "What happens at a host, of `Row.kind`.", "ROW_SUBMIT", "ROW_FORFEIT", "ROW_", {}),
     (

@@ -142,9 +142,9 @@ static bool play_at_host(const gen1_team *team, const uint8_t seed[10]) {
     gen1_message message;
     gen1_notice notice;
     if (gen1_new(&host.room.battle, team, team, seed, 0, GEN1_LIMIT) != 0 ||
-        gen1_player_begin(&player, GEN1_ONE, team, 0) != 0)
+        gen1_player_begin(&player, GEN1_ONE, team, 0, GEN1_HP_BAR) != 0)
         return false;
-    gen1_host_begin(&host, 1, 0, 0);
+    gen1_host_begin(&host, GEN1_HP_BAR, 0, 0);
     do {
         if (gen1_host_message(&host, GEN1_ONE, &message) != 0 ||
             gen1_player_feed(&player, message.log, message.log_length) != 0)

@@ -1,10 +1,9 @@
 // Bad input: each error is named and says which argument is wrong, what it was and what is lawful, and nothing changes.
 import * as library from "../gen1.mjs";
 
-import {equal, hexOf, holds, thrown} from "./holding.mjs";
+import {BIG, equal, hexOf, holds, NO_NUMBERS, NO_OBJECTS, outside, SEED, TAUROS, TERMS, thrown, wrong} from "./holding.mjs";
 import {badHosts} from "./hosts.mjs";
 import {wrongStates, wrongWords} from "./state_faults.mjs";
-import {BIG, NO_NUMBERS, NO_OBJECTS, outside, SEED, TAUROS, TERMS, wrong} from "./wrong_values.mjs";
 
 const {ArgumentError, ArgumentTypeError, DamageError, FreedError, LoadError, LogError, ModuleError} = library;
 const {RefusedError, RoomError, StateError, TeamError, TextError} = library;

@@ -1,4 +1,5 @@
-// Assertions for the checks.
+// Assertions for the checks, and wrong values of arguments.
+import * as library from "../gen1.mjs";
 
 /**
  * Throws if a fact does not hold.
@@ -39,6 +40,34 @@ export function thrown(call, type, text) {
   }
   throw new Error("it threw nothing");
 }
+
+export const SEED = [1, 36, 255, 7, 31, 100, 179, 254, 127, 10];
+export const TAUROS = {
+  species: "Tauros",
+  moves: [["Strength", 3]]
+};
+export const TERMS = {
+  one: [TAUROS],
+  two: [TAUROS],
+  seed: SEED
+};
+export const NO_NUMBERS = [null, 1.5, NaN, Infinity, "1", true, [1], {}, 1n, Symbol("1"), () => 1];
+export const BIG = [-1, 256, 257, 300, 65536, 2 ** 32, 2 ** 53, -(2 ** 70)];
+export const NO_OBJECTS = [undefined, null, 5, "Tauros", true];
+
+/**
+ * The error of a call with an argument of a wrong type.
+ * @param {() => unknown} call
+ * @param {RegExp} text
+ */
+export const wrong = (call, text) => thrown(call, library.ArgumentTypeError, text);
+
+/**
+ * The error of a call with an argument that is out of range.
+ * @param {() => unknown} call
+ * @param {RegExp} text
+ */
+export const outside = (call, text) => thrown(call, library.ArgumentError, text);
 
 const PAIRS = Array.from({length: 256}, (_, byte) => byte.toString(16).padStart(2, "0"));
 const BYTES = new Map(PAIRS.map((pair, byte) => [pair, byte]));

@@ -9,6 +9,7 @@ const {Battle, Host, Message, Narrator, Notice, Room, Row, Spectator} = library;
 /** @type {Record<Named<import("../gen1.mjs").Host>, true>} */
 const OF_HOST = {
   number: true,
+  hpForm: true,
   isClosed: true,
   result: true,
   battle: true,

@@ -1,8 +1,7 @@
 // States that no battle can have, and words that don't name a choice: each error names the field, its value and the lawful ones.
 import * as library from "../gen1.mjs";
 
-import {equal, thrown} from "./holding.mjs";
-import {BIG, NO_NUMBERS, NO_OBJECTS, outside, TAUROS, TERMS, wrong} from "./wrong_values.mjs";
+import {BIG, equal, NO_NUMBERS, NO_OBJECTS, outside, TAUROS, TERMS, thrown, wrong} from "./holding.mjs";
 
 const {ArgumentError, ArgumentTypeError, RefusedError, StateError} = library;
 

@@ -177,6 +177,7 @@ const OF_OUTCOME = {
 /** @type {Record<Named<import("../gen1.mjs").Player>, true>} */
 const OF_PLAYER = {
   side: true,
+  hpForm: true,
   bytes: true,
   view: true,
   choices: true,
@@ -195,6 +196,7 @@ const OF_TEAM = {
 /** @type {Record<Named<import("../gen1.mjs").Teller>, true>} */
 const OF_TELLER = {
   side: true,
+  hpForm: true,
   bytes: true,
   clone: true,
   tell: true,

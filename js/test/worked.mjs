@@ -321,21 +321,21 @@ function inWords(gen1, check) {
 }
 
 // Side 1 after the first turn of a battle with Alakazam, whose Psychic it has seen. The log leaves its Tauros 5 of 353 HP, and Alakazam 32 of 313.
-function guessing(gen1) {
+function guessing(gen1, hpForm) {
   const one = [{species: "Tauros", moves: [["Body Slam", 3]]}];
   const battle = gen1.battle({one, two: [ALAKAZAM, {species: "Chansey", moves: [["Ice Beam", 3]]}], seed: SEED});
-  const [teller, player] = [gen1.teller({side: 1, pixels: false}), gen1.player({side: 1, team: one})];
+  const [teller, player] = [gen1.teller({side: 1, hpForm}), gen1.player({side: 1, team: one})];
   for (const choice of ["pass", "move 1"]) teller.report(battle, battle.update(choice, choice).log, player);
   return player;
 }
 
 // Battles that fit what a player knows.
 function guesses(gen1, check) {
-  const player = guessing(gen1);
-  const {Battle} = library;
+  const player = guessing(gen1, "exact");
+  const {ArgumentError, Battle} = library;
   check("what is known and what is guessed", () => {
     const team = [
-      {species: "Alakazam", moves: [["Recover", 3], ["Psychic", 3]], exp: [0, 65535, 65535, 65535, 65535]},
+      {species: "Alakazam", moves: [["Recover", 3], ["Psychic", 3]], exp: [65535, 0, 65535, 65535, 65535]},
       {species: "Gengar", moves: [["Hypnosis", 3]]}
     ];
     const numbers = Array.from({length: 10}, (_, at) => 20 + at);
@@ -344,11 +344,24 @@ function guesses(gen1, check) {
     equal([copy.ownSide(1), copy.choices(1)], [player.view.own, player.choices]);
     equal([state.turn, state.limit, state.rules, state.numbers, copy.choices(2)],
         [2, 50, 3, numbers, ["move 1", "move 2", "switch 2"]]);
-    // Without HP experience Alakazam has (55 + 15) * 2 + 110 = 250 HP, of which 32 of 313 are 25.6. Of 16 PP of Psychic one was used.
+    // Of 16 PP of Psychic one was used.
     const [alakazam, gengar] = state.two.members;
-    equal([alakazam.maxHp, alakazam.hp, alakazam.pp, alakazam.status], [250, 26, [32, 15], "none"]);
+    equal([alakazam.maxHp, alakazam.hp, alakazam.pp, alakazam.status], [313, 32, [32, 15], "none"]);
     equal([gengar.hp, gengar.maxHp, state.two.active.currentMove], [323, 323, 2]);
     holds(copy.update("move 1", "move 2").log.length > 0, "no log");
+  });
+  check("a guess has HP that are told so", () => {
+    // Without HP experience Alakazam has (55 + 15) * 2 + 110 = 250 HP. The bar of 32 of 313 HP has 12 * 32 / 78 = 4 pixels, and so has that of 21
+    // of 250 (48 * 21 / 250), but not of 20. 32 of 313 are 11 hundredths, and so are 27 of 250, but not 28.
+    const team = [{...ALAKAZAM, exp: [0, 65535, 65535, 65535, 65535]}];
+    for (const [form, told, hp] of [["bar", 4, 21], ["hundredths", 11, 27]]) {
+      const other = guessing(gen1, form);
+      const [found] = Battle.fromPlayer(other, {team, seed: SEED}).state.two.members;
+      equal([other.hpForm, other.view.foe.members[0].hp, found.hp, found.maxHp], [form, told, hp, 250]);
+    }
+    thrown(() => Battle.fromPlayer(player, {team, seed: SEED}), ArgumentError,
+        /^guess\.team\[0\] must have a maximum HP that allows 32 of 313 HP, as the player was told$/);
+    equal([player.hpForm, gen1.player({side: 1, team, hpForm: "hundredths"}).hpForm], ["exact", "hundredths"]);
   });
   check("conditions that were announced", () => {
     const told = player.clone();

@@ -34,7 +34,8 @@ class Computer(Watcher):
         if view.ending or view.side is None:
             self._players.pop(view.room, None)
             return
-        player = Player(view.side, Team.from_dicts(json.loads(view.team)), view.sizes[2 - view.side])
+        team, foes = Team.from_dicts(json.loads(view.team)), view.sizes[2 - view.side]
+        player = Player(view.side, team, foes, hp_form=view.hp_form)
         for log in view.logs[:-1]:
             player.feed(log)
         self._players[view.room] = player

@@ -11,7 +11,7 @@ from collections.abc import Iterable
 from dataclasses import dataclass
 from typing import ClassVar, NamedTuple
 
-from gen1 import Battle, Host, Message, Notice, Row, RowKind, Side
+from gen1 import Battle, Host, HpForm, Message, Notice, Row, RowKind, Side
 from gen1_server.clock import Clock
 
 # Who made a row: its player, or the server since the player's time had run out.
@@ -86,7 +86,8 @@ class View:
     `side` is None for the audience. `sent` is what the host sends it, and
     `logs` are the log bytes that it received for the start and each pair, of
     which the last is that of `sent`; do not keep the list, as it grows.
-    `sizes` are how many members the teams have. `team` is the side's team as
+    `sizes` are how many members the teams have, and `hp_form` is the form of
+    a foe's HP. `team` is the side's team as
     JSON, and `due` when its time runs out; both are empty for the audience.
     `awaited` says whether its choice is missing.
     """
@@ -96,6 +97,7 @@ class View:
     rated: bool
     names: tuple[str, str]
     sizes: tuple[int, int]
+    hp_form: HpForm
     side: Side | None
     team: str
     number: int
@@ -207,7 +209,7 @@ class Match:
         sent: Message | Notice = host.message(side) if side else self._notices[0]
         if side is None and len(self._notices) > 1:
             logs = logs[: 1 - len(self._notices)]
-        fixed = start.id, start.format, start.rated, start.names, self._sizes, side
+        fixed = start.id, start.format, start.rated, start.names, self._sizes, host.hp_form, side
         team, is_awaited = (start.teams[side - 1], host.awaits(side)) if side else ("", False)
         due = self.clock.due(side) if side and not self.ending else 0
         ending = self.ending if side or len(self._notices) == 1 else None

@@ -60,6 +60,7 @@ class JsonConnection(Connection):
             "rated": view.rated,
             "names": view.names,
             "sizes": view.sizes,
+            "hp_form": view.hp_form.name.lower(),
             "side": view.side or 0,
             "history": [_text(it) for it in view.logs[:-1]],
         }

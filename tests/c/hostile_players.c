@@ -5,6 +5,9 @@
 
 static bool is_side(uint8_t side) { return side == GEN1_ONE || side == GEN1_TWO; }
 
+/* Any number but those of exact HP and of hundredths is the bar. */
+static uint8_t form_of(uint8_t number) { return number == GEN1_HP_HUNDREDTHS ? number : number != GEN1_HP_EXACT; }
+
 static uint8_t some_side(void) { return one_in(4) ? any_byte() : (uint8_t)(1 + draw(2)); }
 
 /* ---- players ---- */
@@ -13,19 +16,20 @@ static void try_player_begin(void) {
     gen1_team of = lawful_team(), other = lawful_team();
     for (uint32_t times = draw(3); times > 0; times--)
         spoil(&of);
-    uint8_t side = some_side(), foes = one_in(4) ? any_byte() : (uint8_t)draw(7);
+    uint8_t side = some_side(), foes = one_in(4) ? any_byte() : (uint8_t)draw(7), form = (uint8_t)draw(4);
     uint32_t want = !is_side(side) ? GEN1_ERROR_SIDE
                     : foes > 6     ? GEN1_ERROR_FOES
                                    : fault_of_new(&of, &other, 0, GEN1_LIMIT) & 0xffff;
     gen1_player *player = block(0, sizeof *player);
     const gen1_team *team = block_of(1, &of, sizeof of);
     note();
-    uint32_t got = gen1_player_begin(player, side, team, foes);
-    bool is_right = got != 0 ? unchanged()
-                             : changed_only(0, sizeof *player) && player->side == side && player->foes == foes &&
-                                   player->held_count == 0 && player->offered == 0 &&
-                                   player->known.sides[side - 1].members[0].species == of.members[0].species &&
-                                   player->known.sides[2 - side].members[0].species == 0;
+    uint32_t got = gen1_player_begin(player, side, team, foes, form);
+    bool is_right = got != 0
+                        ? unchanged()
+                        : changed_only(0, sizeof *player) && player->side == side && player->foes == foes &&
+                              player->held_count == 0 && player->offered == 0 && player->hp_form == form_of(form) &&
+                              player->known.sides[side - 1].members[0].species == of.members[0].species &&
+                              player->known.sides[2 - side].members[0].species == 0;
     tell("gen1_player_begin", got == want && is_right, (long)got, (long)want);
 }
 
@@ -34,7 +38,7 @@ static gen1_player some_player(bool *is_valid) {
     gen1_player player;
     gen1_team team = lawful_team();
     memset(&player, 0, sizeof player);
-    gen1_player_begin(&player, (uint8_t)(1 + draw(2)), &team, (uint8_t)draw(7));
+    gen1_player_begin(&player, (uint8_t)(1 + draw(2)), &team, (uint8_t)draw(7), (uint8_t)draw(3));
     *is_valid = !one_in(4);
     for (uint32_t changes = *is_valid ? 0 : 1 + draw(60); changes > 0; changes--)
         ((uint8_t *)&player)[draw(sizeof player)] = any_byte();
@@ -53,7 +57,7 @@ static void try_player_feed(void) {
     bool is_right = got != 0 ? unchanged() && (got == GEN1_ERROR_LOG_TAG || got == GEN1_ERROR_LOG_FIELD)
                              : changed_only(1, sizeof *player) && player->held_count <= sizeof player->held;
     if (is_valid)
-        is_right &= player->unused == 0 && player->known.may_hit_itself <= 2;
+        is_right &= player->hp_form == from.hp_form && player->known.may_hit_itself <= 2;
     tell("gen1_player_feed", is_right, got, 0);
 }
 
@@ -109,10 +113,10 @@ static void try_teller_begin(void) {
     uint8_t side = some_side(), form = one_in(4) ? GEN1_HP_HUNDREDTHS : any_byte();
     gen1_teller *teller = block(0, sizeof *teller);
     note();
-    uint8_t known = form == GEN1_HP_HUNDREDTHS ? form : form != GEN1_HP_EXACT;
     uint8_t got = gen1_teller_begin(teller, side, form), want = is_side(side) ? 0 : GEN1_ERROR_SIDE;
-    bool is_right =
-        got != 0 ? unchanged() : changed_only(0, sizeof *teller) && teller->side == side && teller->pixels == known;
+    bool is_right = got != 0
+                        ? unchanged()
+                        : changed_only(0, sizeof *teller) && teller->side == side && teller->pixels == form_of(form);
     tell("gen1_teller_begin", got == want && is_right, got, want);
 }
 
@@ -138,12 +142,21 @@ static void try_tell(void) {
     tell("gen1_tell", is_right, got, 0);
 }
 
+static uint16_t max_hp_of(const gen1_member *member) {
+    gen1_team team = {.members = {*member}, .count = 1};
+    gen1_battle battle;
+    gen1_state state;
+    gen1_new(&battle, &team, &team, (uint8_t[10]){0}, 0, GEN1_LIMIT);
+    gen1_get_state(&battle, &state);
+    return state.sides[0].members[0].max_hp;
+}
+
 static uint8_t last_move_of(const gen1_side_state *side) {
     uint8_t slot = side->active.current_move;
     return slot == 5 ? GEN1_MOVE_STRUGGLE : slot == 0 ? 0 : side->members[side->active.place - 1].moves[slot - 1];
 }
 
-/* A player that has seen the whole foe of a battle of lawful play, and a guess with its moves. */
+/* A player that has seen the whole foe of a battle of lawful play, and a guess with its moves, of whose maxima it was told. */
 static void player_of(const gen1_battle *of, uint8_t side, gen1_player *player, gen1_guess *guess) {
     gen1_state state;
     gen1_own_side own;
@@ -160,7 +173,8 @@ static void player_of(const gen1_battle *of, uint8_t side, gen1_player *player, 
         gen1_member *member = &guess->team.members[guess->team.count++];
         member->species = it->species, member->level = it->level;
         memcpy(member->moves, it->moves, sizeof it->moves);
-        known->members[at] = (gen1_seen){.hp = it->hp, .max = it->max_hp, .species = it->species};
+        uint16_t most = max_hp_of(member);
+        known->members[at] = (gen1_seen){.hp = it->hp < most ? it->hp : most, .max = most, .species = it->species};
         known->members[at].level = it->level, known->members[at].status = it->status;
     }
     memcpy(known->stages, foe->active.stages, sizeof known->stages);
@@ -170,7 +184,8 @@ static void player_of(const gen1_battle *of, uint8_t side, gen1_player *player, 
     guess->limit = 9999, guess->rules = state.rules;
 }
 
-/* The battle shows the player its own side as it was shown. Where bytes were changed it is refused, or a battle that gen1_load takes. */
+/* The battle shows the player its own side as it was shown. Where bytes were changed it is refused, or a battle that gen1_load takes. A
+ * member that was told with another maximum is refused by its number. */
 static void try_battle_from_player(void) {
     gen1_battle of = met[draw(MET)], loaded;
     uint8_t side = (uint8_t)(1 + draw(2)), result = gen1_result(&of);
@@ -178,6 +193,9 @@ static void try_battle_from_player(void) {
     gen1_guess asked;
     player_of(&of, side, &from, &asked);
     bool is_lawful = one_in(3);
+    uint8_t other = is_lawful && one_in(4) ? (uint8_t)(1 + draw(asked.team.count)) : 0;
+    if (other != 0)
+        from.known.sides[2 - side].members[other - 1].max++;
     for (uint32_t changes = is_lawful ? 0 : 1 + draw(9); changes > 0; changes--)
         if (one_in(4))
             ((uint8_t *)&asked)[draw(sizeof asked)] = any_byte();
@@ -189,16 +207,18 @@ static void try_battle_from_player(void) {
     gen1_guess_fault *fault = block(3, sizeof *fault);
     note();
     uint32_t got = gen1_battle_from_player(battle, player, guess, fault);
-    bool is_fault = got == GEN1_ERROR_STATE || (got >= GEN1_ERROR_NOT_GOING_ON && got <= GEN1_ERROR_GUESS_MOVE);
+    bool is_fault = got == GEN1_ERROR_STATE || (got >= GEN1_ERROR_NOT_GOING_ON && got <= GEN1_ERROR_GUESS_HP);
+    bool is_told_otherwise = other != 0 && got == GEN1_ERROR_GUESS_HP && fault->member == other;
     bool is_right =
-        got == 0 ? changed_only(0, sizeof *battle) && gen1_load(&loaded, battle->bytes, sizeof battle->bytes) == 0
-        : is_fault
-            ? !(is_lawful && got != GEN1_ERROR_NOT_GOING_ON) && changed_only(3, sizeof *fault) && fault->unused == 0
-            : !is_lawful && GEN1_CODE_OF(got) <= GEN1_ERROR_TURN_LIMIT && unchanged();
+        got == 0   ? changed_only(0, sizeof *battle) && gen1_load(&loaded, battle->bytes, sizeof battle->bytes) == 0
+        : is_fault ? (!is_lawful || got == GEN1_ERROR_NOT_GOING_ON || is_told_otherwise) &&
+                         changed_only(3, sizeof *fault) && fault->unused == 0
+                   : !is_lawful && GEN1_CODE_OF(got) <= GEN1_ERROR_TURN_LIMIT && unchanged();
     if (is_lawful) {
         gen1_own_side own;
         gen1_get_own_side(got == 0 ? battle : &of, side, &own);
-        is_right &= (got == 0) == (from.own.place != 0 && GEN1_RESULT_OUTCOME(result) == GEN1_OUTCOME_ONGOING) &&
+        bool goes_on = from.own.place != 0 && GEN1_RESULT_OUTCOME(result) == GEN1_OUTCOME_ONGOING;
+        is_right &= (got == 0) == (goes_on && other == 0) && is_told_otherwise == (goes_on && other != 0) &&
                     memcmp(&own, &from.own, sizeof own) == 0;
     }
     tell("gen1_battle_from_player", is_right, (long)got, 0);

@@ -152,7 +152,7 @@ static void try_error_text(void) {
         {GEN1_ERROR_STALE, GEN1_ERROR_AMBIGUOUS},
         {GEN1_ERROR_TEXT_SPECIES, GEN1_ERROR_UNWRITABLE},
         {GEN1_ERROR_HOST_NUMBER, GEN1_ERROR_HOST_UNUSED},
-        {GEN1_ERROR_NOT_GOING_ON, GEN1_ERROR_GUESS_MOVE},
+        {GEN1_ERROR_NOT_GOING_ON, GEN1_ERROR_GUESS_HP},
     };
     size_t room = draw(140);
     uint8_t code = any_byte();

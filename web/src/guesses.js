@@ -1,5 +1,5 @@
 // Guesses of what is hidden from a player: the foe's team, and battles with such a team. A search in them does not cheat.
-import {Battle} from "gen1";
+import {ArgumentError, Battle} from "gen1";
 
 import {usualMoves} from "./sets.js";
 
@@ -47,6 +47,32 @@ function guessedTeam({gen1, tables}, view, draw) {
 }
 
 /**
+ * The battle with a team. A member whose maximum HP is refused, since it does not allow the HP that the player was told, gets less experience for
+ * HP until it is not, and then the same with a DV of 0 for HP.
+ * @param {Player} player
+ * @param {Member[]} team
+ * @param {{ seed: number[], rules: number, limit: number }} terms
+ * @returns {Battle}
+ */
+function fitting(player, team, terms) {
+  for (let left = 128 * team.length;; left--) {
+    try {
+      return Battle.fromPlayer(player, {...terms, team: /** @type {any} */ (team)});
+    } catch (error) {
+      const refused = error instanceof ArgumentError && /^guess\.team\[(\d)\]$/.exec(error.argument);
+      if (!refused || !left) throw error;
+      const member = team[Number(refused[1])];
+      // A quarter of the root of the experience counts.
+      const quarter = Math.floor(Math.sqrt(member.exp[0]) / 4);
+      if (quarter)
+        member.exp = [16 * (quarter - 1) ** 2, ...member.exp.slice(1)];
+      else
+        Object.assign(member, {dvs: [14, 14, 14, 14], exp: MAX.exp});
+    }
+  }
+}
+
+/**
  * A battle that fits a player's knowledge, after its beginning and before its end.
  * @param {Engine} engine
  * @param {Player} player
@@ -54,8 +80,7 @@ function guessedTeam({gen1, tables}, view, draw) {
  * @param {Frame} frame
  */
 export function guessed(engine, player, draw, {seed, rules, limit, marks}) {
-  const team = /** @type {any} */ (guessedTeam(engine, player.view, draw));
-  const battle = Battle.fromPlayer(player, {team, seed, rules, limit});
+  const battle = fitting(player, guessedTeam(engine, player.view, draw), {seed, rules, limit});
   if (!(rules & SLEEP_CLAUSE) || !marks.length) return battle;
   return battle.withState((state) => {
     const {members} = player.side === 1 ? state.two : state.one;

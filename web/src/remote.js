@@ -9,7 +9,7 @@ import {Match, SIDES} from "./match.js";
  * @typedef {{ room: number, number: number, sent: string, awaited?: boolean, due?: number, ending?: Ending }} Standing what the server
  *   sends after each pair: a gen1_message, or a gen1_notice for the audience, and when the own time runs out
  * @typedef {Standing & { format: string, rated: boolean, names: string[], sizes: number[], side: Side | 0, history: string[],
- *   team?: import("./engine.js").Member[] }} Room a whole battle; `history` has the logs of all pairs but the last
+ *   hp_form: import("gen1").HpForm, team?: import("./engine.js").Member[] }} Room a whole battle; `history` has the logs of all pairs but the last
  * @typedef {{ rules: number, limit: number, ahead: number }} Rules those of the battle, and by how many milliseconds this computer's clock is ahead
  *   of the server's
  */
@@ -46,9 +46,10 @@ export class RemoteMatch extends Match {
     this.format = room.format;
     this.rated = room.rated;
     this.ahead = rules.ahead;
-    this.players =
-        (room.side ? [room.side] : SIDES)
-            .map((side) => engine.gen1.player({side, team: /** @type {any} */ (team), foes: room.sizes[2 - side]}));
+    const [known, hpForm] = [/** @type {any} */ (team), room.hp_form];
+    this.players = (room.side ?
+            [room.side] :
+            SIDES).map((side) => engine.gen1.player({side, team: known, foes: room.sizes[2 - side], hpForm}));
     /** The number of the current pair. */
     this.number = 0;
     /** Whether the side's choice is missing. */

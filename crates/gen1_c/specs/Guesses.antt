@@ -23,6 +23,7 @@ abbrev pub code_of : GuessFault → ℕ
 code_of faults.NotGoingOn = 96
 code_of (faults.Count count) = 97
 code_of (faults.Member member) = 98
+code_of (faults.Hp member) = 100
 code_of (faults.Move member id) = 99
 code_of (faults.State fault) = 23
 
@@ -36,5 +37,6 @@ abbrev pub fault_form_of : GuessFault → GuessFaultForm
 fault_form_of faults.NotGoingOn = guess_form no_state_fault 0 0 0
 fault_form_of (faults.Count count) = guess_form no_state_fault count 0 0
 fault_form_of (faults.Member member) = guess_form no_state_fault 0 member 0
+fault_form_of (faults.Hp member) = guess_form no_state_fault 0 member 0
 fault_form_of (faults.Move member id) = guess_form no_state_fault 0 member id
 fault_form_of (faults.State fault) = guess_form (fault_form fault) 0 0 0

@@ -137,6 +137,7 @@ guess_sentences =
     codes "the guessed team does not have as many members as the foe" ∷
     codes "a member of the guessed team is not the one that appeared" ∷
     codes "a member of the guessed team does not know a move that it was seen to use" ∷
+    codes "the maximum HP of a member of the guessed team does not allow the HP that the player was told" ∷
     []
 
 -- the sentence of a code, if the code exists

@@ -26,6 +26,8 @@ const GUESS_MEMBER: u32 = 98;
 
 const GUESS_MOVE: u32 = 99;
 
+const GUESS_HP: u32 = 100;
+
 /// What a player can't know, as the caller guesses it.
 #[derive(Drop)]
 #[repr(C)]
@@ -50,7 +52,7 @@ pub struct GuessFaultForm {
     pub state: StateFaultForm,
     /// With the code of a count, how many members the foe has; else 0.
     pub count: u8,
-    /// With the code of a member or of a move, the number of the member in the order of appearance; else 0.
+    /// With the code of a member, of its HP or of a move, the number of the member in the order of appearance; else 0.
     pub member: u8,
     /// With the code of a move, its number; else 0.
     pub move_number: u8,
@@ -127,6 +129,7 @@ fn code_of(why: GuessFault) -> u32
         GuessFault::NotGoingOn => NOT_GOING_ON,
         GuessFault::Count(_) => GUESS_COUNT,
         GuessFault::Member(_) => GUESS_MEMBER,
+        GuessFault::Hp(_) => GUESS_HP,
         GuessFault::Move(..) => GUESS_MOVE,
         GuessFault::State(_) => u32::from(STATE),
     }
@@ -139,6 +142,7 @@ fn form_of(why: GuessFault) -> GuessFaultForm
         GuessFault::NotGoingOn => guess_form(no_state_fault(), 0, 0, 0),
         GuessFault::Count(count) => guess_form(no_state_fault(), count, 0, 0),
         GuessFault::Member(member) => guess_form(no_state_fault(), 0, member, 0),
+        GuessFault::Hp(member) => guess_form(no_state_fault(), 0, member, 0),
         GuessFault::Move(member, id) => guess_form(no_state_fault(), 0, member, id),
         GuessFault::State(fault) => guess_form(fault_form(&fault), 0, 0, 0),
     }

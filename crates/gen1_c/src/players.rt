@@ -10,6 +10,7 @@ ghost use Rattle.gen1_layout.specs.Within.{Stands};
 ghost use Rattle.gen1_player.specs.OwnSide.{own_side};
 ghost use Rattle.gen1_player.specs.PlainOwnSide.{IsListed, plain_side};
 ghost use Rattle.gen1_player.specs.Player.{IsFed, IsPlayer, Shown, not_shown, player_of};
+ghost use Rattle.gen1_player.specs.Telling.{form_of};
 ghost use Rattle.gen1_c.specs.Players.{BreaksOff, Tells, begin_code, first_teller, log_code, side_code};
 ghost use Rattle.gen1_c.specs.Teams.{sheets_of, team_fault};
 ghost use Rattle.gen1_c.specs.Update.{IsNoSide};
@@ -32,10 +33,16 @@ const LONG_LOG: u8 = 28;
 
 /// Sets a player to what it knows before a battle. Returns 0, or the first error: of the side, of the number of foes, of the team.
 #[unsafe(no_mangle)]
-pub extern "C" fn gen1_player_begin(player: &mut Player, side: u8, team: &TeamForm, foes: u8) -> u32
+pub extern "C" fn gen1_player_begin(
+    player: &mut Player,
+    side: u8,
+    team: &TeamForm,
+    foes: u8,
+    hp_form: u8,
+) -> u32
     ensures code { result ≡ begin_code side foes (team_fault team.now) }
     ensures begun { result ≡ 0 → (s : Side) → side ≡ side_number s
-        → player.new ≡ player_of s (team_of (sheets_of team.now)) foes [] [] (record { own = not_shown; offered = 0 }) }
+        → player.new ≡ player_of s (team_of (sheets_of team.now)) foes (form_of hp_form) [] [] (record { own = not_shown; offered = 0 }) }
     ensures kept { result ≢ 0 → player.new ≡ player.old }
 {
     let Some(side) = Side::from_number(side) else {
@@ -46,7 +53,7 @@ pub extern "C" fn gen1_player_begin(player: &mut Player, side: u8, team: &TeamFo
     }
     match team_of(team) {
         Ok(team) => {
-            *player = Player::new(side, &team, foes);
+            *player = Player::new(side, &team, foes, HpForm::of_number(hp_form));
             0
         }
         Err(fault) => fault,
@@ -56,11 +63,11 @@ pub extern "C" fn gen1_player_begin(player: &mut Player, side: u8, team: &TeamFo
 /// Feeds a player the next bytes of what its side is told, which may be cut anywhere. Returns 0, or the code of the error.
 #[unsafe(no_mangle)]
 pub extern "C" fn gen1_player_feed(player: &mut Player, told: &[u8]) -> u8
-    ensures fed { (side : Side) (team : List Member) (foes : ℕ) (before : List ℕ) (shown : Shown)
-        → IsPlayer side team foes before shown player.old → result ≡ 0
-        → IsPlayer side team foes (before ++ told.now) shown player.new }
-    ensures fault { (side : Side) (team : List Member) (foes : ℕ) (before : List ℕ) (shown : Shown)
-        → IsPlayer side team foes before shown player.old → result ≢ 0
+    ensures fed { (side : Side) (team : List Member) (foes : ℕ) (form : HpForm) (before : List ℕ) (shown : Shown)
+        → IsPlayer side team foes form before shown player.old → result ≡ 0
+        → IsPlayer side team foes form (before ++ told.now) shown player.new }
+    ensures fault { (side : Side) (team : List Member) (foes : ℕ) (form : HpForm) (before : List ℕ) (shown : Shown)
+        → IsPlayer side team foes form before shown player.old → result ≢ 0
         → (fault : LogFault) × (result ≡ log_code fault) × BreaksOff fault (before ++ told.now) }
     // For any bytes, valid or not.
     ensures code { result ≢ 0 → (32 ≤ result) × (result ≤ 34) }
@@ -77,9 +84,9 @@ pub extern "C" fn gen1_player_feed(player: &mut Player, told: &[u8]) -> u8
 #[unsafe(no_mangle)]
 pub extern "C" fn gen1_player_show(player: &mut Player, own: &OwnSide, offered: u16)
     ensures changed { player.new ≡ record player.old { own = own.now; offered = offered } }
-    ensures shown { (side : Side) (team : List Member) (foes : ℕ) (told : List ℕ) (shown : Shown)
-        → IsPlayer side team foes told shown player.old
-        → IsPlayer side team foes told (record { own = own.now; offered = offered }) player.new }
+    ensures shown { (side : Side) (team : List Member) (foes : ℕ) (form : HpForm) (told : List ℕ) (shown : Shown)
+        → IsPlayer side team foes form told shown player.old
+        → IsPlayer side team foes form told (record { own = own.now; offered = offered }) player.new }
 {
     player.show(own, offered);
 }

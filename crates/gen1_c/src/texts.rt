@@ -117,11 +117,12 @@ static HOST_TEXTS: [&str; 11] = [
     "an unused byte, or the forfeit of the room, is not 0",
 ];
 
-static GUESS_TEXTS: [&str; 4] = [
+static GUESS_TEXTS: [&str; 5] = [
     "the player is in no battle that has begun and is not over",
     "the guessed team does not have as many members as the foe",
     "a member of the guessed team is not the one that appeared",
     "a member of the guessed team does not know a move that it was seen to use",
+    "the maximum HP of a member of the guessed team does not allow the HP that the player was told",
 ];
 
 /// Writes what a code means, as one sentence with the valid range. Returns 0, or the code of an unknown number, or of a text that is

@@ -3,7 +3,7 @@ use Rattle.gen1_machine.specs.LogBytes.{kind_or_0}
 use Rattle.gen1_player.proofs.Sleeping.{sleepers_agree}
 use Rattle.gen1_player.specs.Player.{known_at}
 use Rattle.std.proofs.Common.{Bool, List, Option, Some, ap, arith, cond, false, inl, inr, is_some, length, refl, slice_index_or, subst, sym, true, unwrap_or, ℕ, ◌+◌, ◌-◌, ◌<◌, ◌==◌, ◌∙◌, ◌≡◌, ◌≢◌, ◌≤◌, ◌⊎◌, suc, zero}
-use Rattle.std.specs.Prelude.{None, nat_lt, if◌then◌else◌}
+use Rattle.std.specs.Prelude.{None, nat_lt, if◌then◌else◌, nat_le, ◌&&◌}
 use Rattle.std.proofs.lemmas.Bool.{false≢true}
 use Rattle.std.proofs.lemmas.Bool.Decides.{eqb_tells, nat_tests}
 use Rattle.std.proofs.lemmas.List.{get_or_past}
@@ -35,26 +35,28 @@ use Rattle.gen1_player.specs.declared.teller.Teller.{Teller}
 use Rattle.gen1_player.specs.OwnSide.{own_active, own_side}
 use Rattle.gen1_player.specs.PlainOwnSide.{nobody_out as none_out, plain_out, plain_side}
 use Rattle.gen1_player.specs.Public.{on_public_side, public_side, seen_at}
-use Rattle.gen1_player.specs.Telling.{form_of, meets_all, told_in}
-use Rattle.gen1_player.specs.True.{as_known, current_move_of, IsMoveOf, events_in, first_teller, foe_as_told, is_fault, own_as_known, public_of, team_of, AgreesWith, BothDo, IsTold, SideAgrees, SideDoes, SideHasAppeared, SideIsTold, SideSleeps, own_known}
+use Rattle.gen1_player.specs.Telling.{form_number, form_of, meets_all, told_in}
+use Rattle.gen1_player.specs.True.{as_known, current_move_of, IsMoveOf, events_in, first_teller, foe_as_told, is_fault, own_as_known, public_of, team_of, with_hp_told, AgreesWith, BothDo, IsSeen, IsTold, SideAgrees, SideDoes, SideHasAppeared, SideIsTold, SideSleeps, own_known}
 use Rattle.gen1_player.proofs.Conditions.{conditions_agree}
 use Rattle.gen1_player.proofs.DeedRuns.{actives_agree}
 use Rattle.gen1_player.proofs.HpForms.{tells_hp}
 use Rattle.gen1_player.proofs.Lenses.{is-some, is-zero}
 use Rattle.gen1_player.proofs.Members.{all-tellable, members_agree}
 use Rattle.gen1_player.proofs.Placing.{agrees}
+use Rattle.gen1_player.proofs.Slots.{meets_all-pixels}
 use Rattle.gen1_player.proofs.ToldPublic.{holds, met, FoeKept, Known}
 use Rattle.gen1_states.specs.Faults.{on as on_if}
 use Rattle.gen1_states.specs.Plain.{no_member}
 use Rattle.gen1_states.specs.declared.plain.MemberState.{MemberState}
-use Rattle.gen1_guesses.specs.Forks.{AgreesWithFork, ForksAgree, IsFork, IsGuess, IsToldAs, MayBeTold, MayHaveHp, foe_part, own_part}
+use Rattle.gen1_guesses.specs.Forks.{AgreesWithFork, ForksAgree, IsFork, IsGuess, HasPlayer, IsToldAs, TrueHpFits, foe_part, own_part}
 use Rattle.gen1_guesses.specs.Active.{is_on}
-use Rattle.gen1_guesses.specs.Members.{fresh_members, hp_of, member_at as place_in, seen_in}
+use Rattle.gen1_guesses.specs.Members.{fresh_members, hp_of, seen_in}
+use Rattle.gen1_guesses.specs.Tests.{allows_max}
 use Rattle.gen1_guesses.specs.declared.guess.Guess.{Guess}
 use Rattle.gen1_guesses.proofs.OwnForked.{short-of, IsShort, appeared-alike, does-alike, lives-alike, own_poison, shows_at, told-alike, view-alike, Alike, own_alike, own_plain, same_shown, slot_of_own, stats_of_own, Shows, shows as shows_own, own_sleeps}
 use Rattle.gen1_guesses.proofs.FoeForked.{counted_if, foe_appeared, foe_does, foe_place, foe_told, foe_view, traps_on, and_same, exact, flag_of, guess_fits, on_is, told_there, Fits, Foe, IsFlag, foe_sleeps}
 use Rattle.gen1_guesses.proofs.ForkedStates.{fits, has_sides, HasSides, below_or, holds_side, party_valid, started, Holds}
-use Rattle.gen1_guesses.proofs.KnownFoes.{current_known, explained, foe_of_run, foe_plain, as_told, is_teller, numbered, out_told, teller_of, IsNumbered, forks_tell_hp, told_causes, told_short}
+use Rattle.gen1_guesses.proofs.KnownFoes.{current_known, explained, foe_of_run, foe_plain, as_told, is_teller, numbered, out_told, teller_of, IsNumbered, forks_tell_hp, told_causes, told_short, known_told}
 
 -- One side of what holds of both
 
@@ -169,33 +171,26 @@ status_ok rules t i v z = by (below_or i (length t.members))
 -- HP of the foe
 
 module _ (clause : Bool) (x : PublicSide) (held : Bool) (team : List Member) (t : Party) (rules : Rules) (p : Player)
-    (h : Holds t (foe_part clause x held (fresh_members team))) (v : IsParty rules t) (form : ℕ)
-    (may : (k : ℕ) → (seen_in k x.members).species ≢ 0 → MayBeTold form (seen_in k x.members).hp (seen_in k x.members).max (place_in (k + 1) (fresh_members team)).max_hp)
-    (f : Fits p x (fresh_members team)) where
+    (h : Holds t (foe_part clause x held (fresh_members team))) (v : IsParty rules t) (f : Fits p x (fresh_members team)) where
   foe_member : (i : ℕ) → i < 6 → (seen_in i x.members).species ≢ 0 → IsMember (slice_index_or t.members i nobody)
   foe_member i low z = member_ok rules t i v.members (λ e. z ((f.members i low z).species ∙ sym (ap (λ (m : MemberState). m.species) (told_there clause x held (fresh_members team) t h i low z)) ∙ e))
 
   pub hp_told : (i : ℕ) → i < 6 → (seen_in i x.members).species ≢ 0
-      → let m : Member = slice_index_or t.members i nobody in IsToldAs form (seen_in i x.members).hp (seen_in i x.members).max m.hp m.max
+      → let m : Member = slice_index_or t.members i nobody in IsToldAs p.hp_form (seen_in i x.members).hp (seen_in i x.members).max m.hp m.max
   hp_told i low z =
       let s : Seen = seen_in i x.members in
       let fresh : MemberState = slice_index_or (fresh_members team) i no_member in
       let e = told_there clause x held (fresh_members team) t h i low z in
       let most : (slice_index_or t.members i nobody).max ≡ fresh.max_hp = ap (λ (m : MemberState). m.max_hp) e in
       let hp : (slice_index_or t.members i nobody).hp ≡ hp_of s.hp s.max fresh.max_hp = ap (λ (m : MemberState). m.hp) e in
-      let ok = (foe_member i low z).max.0 in
-      let back : i + 1 - 1 ≡ i = omega arith in
-      let told : MayBeTold form s.hp s.max fresh.max_hp =
-      subst (λ (k : ℕ). MayBeTold form s.hp s.max (slice_index_or (fresh_members team) k no_member).max_hp) back (may i z) in
-      subst (λ (a : ℕ). IsToldAs form s.hp s.max a (slice_index_or t.members i nobody).max) (sym hp)
-      (subst (λ (b : ℕ). IsToldAs form s.hp s.max (hp_of s.hp s.max fresh.max_hp) b) (sym most)
-      (forks_tell_hp form s.hp s.max fresh.max_hp (omega (arith, ok, most)) told))
+      subst (λ (a : ℕ). IsToldAs p.hp_form s.hp s.max a (slice_index_or t.members i nobody).max) (sym hp)
+      (subst (λ (b : ℕ). IsToldAs p.hp_form s.hp s.max (hp_of s.hp s.max fresh.max_hp) b) (sym most) (f.members i low z).hp)
 
   -- A member without HP in the log has none.
   pub fallen_if_told : (i : ℕ) → i < 6 → (seen_in i x.members).species ≢ 0 → (seen_in i x.members).hp ≡ 0 → (slice_index_or t.members i nobody).hp ≡ 0
   fallen_if_told i low z e =
       let m = foe_member i low z in
-      (tells_hp (form_of form) (slice_index_or t.members i nobody).hp (slice_index_or t.members i nobody).max m.hp m.max.0).0 ((hp_told i low z).0 ∙ e)
+      (tells_hp (form_of p.hp_form) (slice_index_or t.members i nobody).hp (slice_index_or t.members i nobody).max m.hp m.max.0).0 ((hp_told i low z).0 ∙ e)
 
 -- The foe's living member has HP in the log too: a member without HP has none there.
 
@@ -236,12 +231,12 @@ count_in s q b d living = d.toxic_count living
 
 -- All of it
 
-module _ (s : Side) (form : ℕ) (few : form ≤ 2) (team : List Member) (t : Teller) (q : Public) (b : State) (valid : IsState b)
+module _ (s : Side) (team : List Member) (t : Teller) (q : Public) (b : State) (valid : IsState b)
     (known : Known s team t q) (view : AgreesWith q (shows b.field)) (told : IsTold q b.field) (does : BothDo q b.field)
     (members : SideHasAppeared q.one b.field.one × SideHasAppeared q.two b.field.two) (truth : Bool) (sleeps : (u : Side) → SideSleeps truth (public_side u q) (party u b.field))
-    (p : Player) (side : p.side ≡ side_number s) (public : p.public ≡ as_known s team t q) (shown : p.own ≡ plain_side (own_side s b.field))
+    (p : Player) (few : p.hp_form ≤ 2) (side : p.side ≡ side_number s) (public : p.public ≡ as_known s team t q) (shown : p.own ≡ plain_side (own_side s b.field))
     (slots : (k : ℕ) → length (seen_in k (public_side (other s) p.public).members).moves ≡ 5)
-    (g : Guess) (f : State) (guess : IsGuess g) (may : MayHaveHp s form p g) (fork : IsFork p g f) where
+    (g : Guess) (f : State) (guess : IsGuess g) (fork : IsFork p g f) where
   x_is : public_side (other s) p.public ≡ foe_as_told t (public_side (other s) q)
   x_is = ap (public_side (other s)) public ∙ foe_of_public s team t q
 
@@ -329,8 +324,8 @@ module _ (s : Side) (form : ℕ) (few : form ≤ 2) (team : List Member) (t : Te
       (numbered t (public_side (other s) q) known.foe))
 
   hp_x : (i : ℕ) → i < 6 → (seen_in i (public_side (other s) p.public).members).species ≢ 0 → let m : Member = slice_index_or (party (other s) f.field).members i nobody in
-      IsToldAs form (seen_in i (public_side (other s) p.public).members).hp (seen_in i (public_side (other s) p.public).members).max m.hp m.max
-  hp_x = hp_told g.rules.sleep_clause (public_side (other s) p.public) (is_on p.own.held) g.team (party (other s) f.field) f.terms.rules p foe_holds (party_f (other s)) form may fitting
+      IsToldAs p.hp_form (seen_in i (public_side (other s) p.public).members).hp (seen_in i (public_side (other s) p.public).members).max m.hp m.max
+  hp_x = hp_told g.rules.sleep_clause (public_side (other s) p.public) (is_on p.own.held) g.team (party (other s) f.field) f.terms.rules p foe_holds (party_f (other s)) fitting
 
   -- The trapping of the foe
 
@@ -363,7 +358,7 @@ module _ (s : Side) (form : ℕ) (few : form ≤ 2) (team : List Member) (t : Te
           let low : (public_side (other s) p.public).place - 1 < 6 = (let l = o.1 in omega (arith, place, l)) in
           let named : (seen_in ((public_side (other s) p.public).place - 1) (public_side (other s) p.public).members).species ≢ 0 =
           λ z. o.3 (ap (λ (i : ℕ). (seen_in i (public_side (other s) p.public).members).species) (sym back) ∙ z) in
-          let dead = fallen_if_told g.rules.sleep_clause (public_side (other s) p.public) (is_on p.own.held) g.team (party (other s) f.field) f.terms.rules p foe_holds (party_f (other s)) form may fitting ((public_side (other s) p.public).place - 1) low named none_x in
+          let dead = fallen_if_told g.rules.sleep_clause (public_side (other s) p.public) (is_on p.own.held) g.team (party (other s) f.field) f.terms.rules p foe_holds (party_f (other s)) fitting ((public_side (other s) p.public).place - 1) low named none_x in
           absurd (not_living _ (ap (λ (n : ℕ). (member_at n (party (other s) f.field)).hp) (foe_place g.rules.sleep_clause (public_side (other s) p.public) (is_on p.own.held) (fresh_members g.team) (party (other s) f.field) f.terms.rules p foe_holds (party_f (other s)) foe_x fitting) ∙ dead) living)
 
   seeded_x : is_living (member_at (party (other s) f.field).active.place (party (other s) f.field)) ≡ true → IsFlag (public_side (other s) p.public).announced.seeded
@@ -382,17 +377,17 @@ module _ (s : Side) (form : ℕ) (few : form ≤ 2) (team : List Member) (t : Te
       counted_if (is_some o) (public_side s q).announced.toxic_count (λ off. count ∙ none_left o off)
       ∙ ap (λ (n : ℕ). on_if (is_some o) n) (sym known) ∙ sym (own_poison g.rules.sleep_clause p.own (public_side s p.public) s (party s f.field) b.field shows_p own_holds)
 
-  pub whole : AgreesWithFork s form team p g.rules.sleep_clause f.field
+  pub whole : AgreesWithFork s team p g.rules.sleep_clause f.field
   whole = record {
     own = same_shown s f b alike (party_f s) (party_b s) (stats_of_own g.rules.sleep_clause p.own (public_side s p.public) s f.field b.field now_f sides.own shows_p) (slot_of_own g.rules.sleep_clause p.own (public_side s p.public) s f.field b.field own_holds shows_p) held_f (sides.turn ∙ turn_p)
         (sides.request ∙ ap (λ (o : OwnSide). o.request) shown)
         (sides.outcome ∙ sym fitting.going ∙ ap (λ (o : OwnSide). o.outcome) shown) ∙ sym shown;
-    teller = teller_of s form (public_side (other s) p.public);
-    is_teller = is_teller (public_side (other s) p.public) numbered_x s form few;
+    teller = teller_of s p.hp_form (public_side (other s) p.public);
+    is_teller = is_teller (public_side (other s) p.public) numbered_x s p.hp_form few;
     form_is = refl;
     public = with_foe s (exact (party (other s) f.field) (public_side (other s) p.public)) q;
-    known = public ∙ known_with s team t (teller_of s form (public_side (other s) p.public)) q (exact (party (other s) f.field) (public_side (other s) p.public))
-        (as_told (public_side (other s) p.public) numbered_x s form (party (other s) f.field) hp_x fitting.foe_out ∙ x_is);
+    known = public ∙ known_with s team t (teller_of s p.hp_form (public_side (other s) p.public)) q (exact (party (other s) f.field) (public_side (other s) p.public))
+        (as_told (public_side (other s) p.public) numbered_x s p.hp_form (party (other s) f.field) hp_x fitting.foe_out ∙ x_is);
     view = whole_view s q _ f.field (view-alike (public_side s q) _ _ alike (view_of s q b.field view)) (foe_view g.rules.sleep_clause (public_side (other s) p.public) (is_on p.own.held) (fresh_members g.team) (party (other s) f.field) f.terms.rules p foe_holds (party_f (other s)) foe_x fitting)
         (turn_of view ∙ sym (sides.turn ∙ turn_p)) (outcome_of view ∙ sym (ap (λ (o : OwnSide). o.outcome) shown) ∙ fitting.going ∙ sym sides.outcome);
     conditions = whole_told s q _ f.field (told-alike (public_side s q) _ _ alike (told_of s q b.field told)) (foe_told g.rules.sleep_clause (public_side (other s) p.public) (is_on p.own.held) (fresh_members g.team) (party (other s) f.field) f.terms.rules p foe_holds (party_f (other s)) foe_x fitting seeded_x);
@@ -413,8 +408,22 @@ module _ (s : Side) (form : ℕ) (few : form ≤ 2) (team : List Member) (t : Te
       outcome_of : AgreesWith q (shows b.field) → q.outcome ≡ outcome_byte b.field.outcome
       outcome_of v = v.outcome
 
+-- The form of a player
+
+form_small : (form : HpForm) → form_number form ≤ 2
+form_small Exact = omega arith
+form_small Bar = omega arith
+form_small Hundredths = omega arith
+
+form_of_player : (s : Side) (one two : List Member) (r : Ran) (p : Player) (player : HasPlayer s one two r p) → p.hp_form ≡ form_number player.form
+form_of_player s one two r p player = ap (λ (z : Player). z.hp_form) player.is.is
+
+form_few : (s : Side) (one two : List Member) (r : Ran) (p : Player) → HasPlayer s one two r p → p.hp_form ≤ 2
+form_few s one two r p player = subst (λ (n : ℕ). n ≤ 2) (sym (form_of_player s one two r p player)) (form_small player.form)
+
 pub forks_agree : ForksAgree
-forks_agree t one two seed pairs terms stream team_one team_two s form p few player g f guess may fork =
+forks_agree t one two seed pairs terms stream team_one team_two s p player g f guess fork =
+    let form : ℕ = form_number player.form in
     let r : Ran = run (first_state t one two seed) pairs in
     let team : List Member = team_of s one two in
     let tellable = all-tellable t one two seed pairs team_one team_two in
@@ -425,6 +434,69 @@ forks_agree t one two seed pairs terms stream team_one team_two s form p few pla
     let going = (guess_fits p (public_side (other s) p.public) (length g.team) (fresh_members g.team) (fits s p g fork.state side fork.guessed).0).going in
     let does : BothDo (public_of r) r.state.field = actives_agree t one two seed pairs terms stream team_one team_two
     (no_fault r.state.field.outcome (sym (ap (λ (o : OwnSide). o.outcome) own) ∙ going)) in
-    whole s form few team (meets_all (events_in r) (first_teller s form)) (public_of r) r.state valid (met s form team r tellable) view
+    whole s team (meets_all (events_in r) (first_teller s form)) (public_of r) r.state valid (met s form team r tellable) view
     (conditions_agree t one two seed pairs team_one team_two) does (members_agree t one two seed pairs team_one team_two) t.rules.sleep_clause (sleepers_agree t one two seed pairs team_one team_two)
-    p side (holds s form one two r tellable player.foes player.log _ p player.told player.is) own player.slots g f guess may fork
+    p (form_few s one two r p player) side (holds s form one two r tellable player.foes player.form player.log _ p player.told player.is) own player.slots g f guess fork
+
+-- True maxima
+
+same : (a b : ℕ) → a ≡ b → (a == b) ≡ true
+same a b e = by (eqb_tells a b)
+  where
+    by : (((a == b) ≡ true) × (a ≡ b)) ⊎ (((a == b) ≡ false) × (a ≢ b)) → (a == b) ≡ true
+    by (inl t) = t.0
+    by (inr t) = absurd (t.1 e)
+
+-- A maximum of which any HP are reported so passes the test.
+true_hp : (form : ℕ) (s : Seen) (hp most : ℕ) → hp ≤ most → 11 ≤ most → most ≤ 999 → IsToldAs form s.hp s.max hp most → allows_max form s most ≡ true
+true_hp form s hp most few low high told =
+    let again = forks_tell_hp form s.hp s.max most low (hp, few, told) in
+    let a : nat_le 11 most ≡ true = grind (arith, nat_tests) in
+    let b : nat_le most 999 ≡ true = grind (arith, nat_tests) in
+    rw (a, b, same _ _ again.0, same _ _ again.1) refl
+
+module _ (t : Teller) (w : PublicSide) (u : Party) (rules : Rules) (k : FoeKept t.places w.place w.members) where
+  true_there : IsMembersUnder rules u.members → SideAgrees w (side_shows u) → SideHasAppeared w u → (i : ℕ) → (seen_in i (foe_as_told t w).members).species ≢ 0
+      → allows_max t.pixels (seen_in i (foe_as_told t w).members) (member_at (slice_index_or t.places i 0) u).max ≡ true
+  true_there v a h i z =
+      let e = known_told t w k i z in
+      let place : ℕ = slice_index_or t.places i 0 in
+      let m : Member = member_at place u in
+      let named : (seen_at place w).species ≢ 0 = k.appeared i e.0 in
+      let is : IsSeen (seen_at place w) m = h.each place named in
+      let ok : IsMember m = member_ok rules u (place - 1) v (λ n. named (is.species ∙ n)) in
+      let hp : (seen_at place w).hp ≡ m.hp = (a.members place named).0 ∙ ap (λ (x : Shown). x.hp) (shows_at u place) in
+      let most = is.max in
+      let fits = ok.hp in
+      let low = ok.max.0 in
+      let high = ok.max.1 in
+      let told : IsToldAs t.pixels (with_hp_told t (seen_at place w)).hp (with_hp_told t (seen_at place w)).max (seen_at place w).hp (seen_at place w).max = (refl, refl) in
+      subst (λ (x : Seen). allows_max t.pixels x m.max ≡ true) (sym e.1) (subst (λ (n : ℕ). allows_max t.pixels (with_hp_told t (seen_at place w)) n ≡ true) most
+      (true_hp t.pixels (with_hp_told t (seen_at place w)) (seen_at place w).hp (seen_at place w).max (omega (arith, hp, most, fits)) (omega (arith, most, low)) (omega (arith, most, high)) told))
+
+members_under : (s : Side) (b : State) → IsState b → IsMembersUnder b.terms.rules (party s b.field).members
+members_under s b v = by s v.field
+  where
+    by : (s : Side) → IsUnstarted b.terms b.field ⊎ IsStarted b.terms b.field → IsMembersUnder b.terms.rules (party s b.field).members
+    by One (inl u) = u.members_one
+    by Two (inl u) = u.members_two
+    by s (inr w) = (party_valid s b.terms b.field w.field).members
+
+pub true_hp_fits : TrueHpFits
+true_hp_fits t one two seed pairs terms stream team_one team_two s p player k z =
+    let r : Ran = run (first_state t one two seed) pairs in
+    let team : List Member = team_of s one two in
+    let tellable = all-tellable t one two seed pairs team_one team_two in
+    let valid : IsState r.state = states_stay_valid (first_state t one two seed) pairs (first_states_are_valid t one two seed terms team_one team_two stream) in
+    let teller : Teller = meets_all (events_in r) (first_teller s p.hp_form) in
+    let foe : PublicSide = public_side (other s) (public_of r) in
+    let known = subst (λ (n : ℕ). p.public ≡ as_known s team (meets_all (events_in r) (first_teller s n)) (public_of r)) (sym (form_of_player s one two r p player))
+    (holds s (form_number player.form) one two r tellable player.foes player.form player.log _ p player.told player.is) in
+    let is : public_side (other s) p.public ≡ foe_as_told teller foe = ap (public_side (other s)) known ∙ foe_of_public s team teller (public_of r) in
+    let fits = true_there teller foe (party (other s) r.state.field) r.state.terms.rules (met s p.hp_form team r tellable).foe (members_under (other s) r.state valid)
+    (view_of (other s) (public_of r) r.state.field (agrees t one two seed pairs team_one team_two))
+    (appeared_of (other s) (public_of r) r.state.field (members_agree t one two seed pairs team_one team_two)) k
+    (subst (λ (x : PublicSide). (seen_in k x.members).species ≢ 0) is z) in
+    subst (λ (x : PublicSide). allows_max p.hp_form (seen_in k x.members) (member_at (slice_index_or teller.places k 0) (party (other s) r.state.field)).max ≡ true) (sym is)
+    (subst (λ (n : ℕ). allows_max n (seen_in k (foe_as_told teller foe).members) (member_at (slice_index_or teller.places k 0) (party (other s) r.state.field)).max ≡ true)
+    (meets_all-pixels (events_in r) (first_teller s p.hp_form)) fits)

@@ -28,9 +28,9 @@ use Rattle.gen1_states.specs.Reading.{member_state}
 use Rattle.gen1_states.specs.declared.plain.ActiveState.{ActiveState}
 use Rattle.gen1_states.specs.declared.plain.MemberState.{MemberState}
 use Rattle.gen1_guesses.specs.Active.{foe_bits, is_on, used_slot}
-use Rattle.gen1_guesses.specs.Forks.{foe_part}
-use Rattle.gen1_guesses.specs.Members.{member_at as place_in, members_of, seen_in, sleep_of, told, told_if_seen}
-use Rattle.gen1_guesses.specs.Tests.{at_index, id_in, knows as knows_move, tested, tested_member, tested_members, tested_use, tested_uses, unless, Tested}
+use Rattle.gen1_guesses.specs.Forks.{foe_part, IsToldAs}
+use Rattle.gen1_guesses.specs.Members.{member_at as place_in, members_of, seen_in, sleep_of, told, told_if_seen, hp_of}
+use Rattle.gen1_guesses.specs.Tests.{at_index, id_in, knows as knows_move, tested, tested_member, tested_members, tested_use, tested_uses, unless, Tested, tested_hp}
 use Rattle.gen1_guesses.specs.declared.fault.GuessFault.{GuessFault}
 use Rattle.gen1_guesses.specs.declared.fault.GuessFault.TheVariants as faults
 use Rattle.gen1_guesses.proofs.OwnForked.{bit_back, bits_same, four, is-move, knows_used, shows_at, marked-by, turns-left, IsShort}
@@ -211,9 +211,21 @@ use_of number id m e z = by (eqb_tells id 0) (eqb_tells id struggle)
     by (inr a) (inl b) = inl b.1
     by (inr a) (inr b) = inr (third (id == 0) (id == struggle) (knows_move id m) a.0 b.0 (passed _ _ e))
 
-pub record FitsMember (s : Seen) (m : MemberState) : Type 0 where
+equal : (a b : ℕ) → (a == b) ≡ true → a ≡ b
+equal a b e = by (eqb_tells a b)
+  where
+    by : (((a == b) ≡ true) × (a ≡ b)) ⊎ (((a == b) ≡ false) × (a ≢ b)) → a ≡ b
+    by (inl t) = t.1
+    by (inr t) = absurd (false≢true (sym t.0 ∙ e))
+
+told_as : (form number : ℕ) (s : Seen) (m : MemberState) → tested_hp form number s m ≡ Ok tt → IsToldAs form s.hp s.max (hp_of s.hp s.max m.max_hp) m.max_hp
+told_as form number s m e =
+    let tells = both _ _ (both _ _ (passed _ _ e)).1 in (equal _ _ tells.0, equal _ _ tells.1)
+
+pub record FitsMember (form : ℕ) (s : Seen) (m : MemberState) : Type 0 where
   pub species : s.species ≡ m.species
   pub level : s.level ≡ m.level
+  pub hp : IsToldAs form s.hp s.max (hp_of s.hp s.max m.max_hp) m.max_hp
   pub uses : (j : ℕ) → j < 5 → IsUse (id_in j s) m
 
 uses_fit : (number : ℕ) (s : Seen) (m : MemberState) → tested_uses number s m ≡ Ok tt → (j : ℕ) → j < 5 → IsUse (id_in j s) m
@@ -233,42 +245,40 @@ uses_fit number s m e =
     by a b c d f (suc (suc (suc (suc zero)))) low = f
     by a b c d f (suc (suc (suc (suc (suc j))))) low = absurd (omega (arith, low))
 
-abbrev test_of : ℕ → Seen → MemberState → Bool → Bool → Bool → Tested
-test_of number s m a b c = if a then Ok tt else if b && c then tested_uses number s m else Err (faults.Member number)
+abbrev test_of : ℕ → ℕ → Seen → MemberState → Bool → Bool → Bool → Tested
+test_of form number s m a b c = if a then Ok tt else if b && c then tested_hp form number s m ▸ tested_uses number s m else Err (faults.Member number)
 
-member_fits : (number : ℕ) (s : Seen) (m : MemberState) → tested_member number s m ≡ Ok tt → s.species ≢ 0 → FitsMember s m
-member_fits number s m e z = by (eqb_tells s.species 0) (eqb_tells s.species m.species) (eqb_tells s.level m.level) e
+member_fits : (form number : ℕ) (s : Seen) (m : MemberState) → tested_member form number s m ≡ Ok tt → s.species ≢ 0 → FitsMember form s m
+member_fits form number s m e z = by (eqb_tells s.species 0) (eqb_tells s.species m.species) (eqb_tells s.level m.level) e
   where
     by : (((s.species == 0) ≡ true) × (s.species ≡ 0)) ⊎ (((s.species == 0) ≡ false) × (s.species ≢ 0))
         → (((s.species == m.species) ≡ true) × (s.species ≡ m.species)) ⊎ (((s.species == m.species) ≡ false) × (s.species ≢ m.species))
         → (((s.level == m.level) ≡ true) × (s.level ≡ m.level)) ⊎ (((s.level == m.level) ≡ false) × (s.level ≢ m.level))
-        → test_of number s m (s.species == 0) (s.species == m.species) (s.level == m.level) ≡ Ok tt → FitsMember s m
+        → test_of form number s m (s.species == 0) (s.species == m.species) (s.level == m.level) ≡ Ok tt → FitsMember form s m
     by (inl a) b c e = absurd (z a.1)
-    by (inr a) (inl b) (inl c) e = record {
-      species = b.1;
-      level = c.1;
-      uses = uses_fit number s m (subst (λ (i : Bool). test_of number s m false true i ≡ Ok tt) c.0
-          (subst (λ (i : Bool). test_of number s m false i (s.level == m.level) ≡ Ok tt) b.0 (subst (λ (i : Bool). test_of number s m i (s.species == m.species) (s.level == m.level) ≡ Ok tt) a.0 e)));
-    }
-    by (inr a) (inl b) (inr c) e = absurd (let no : Err (faults.Member number) ≡ Ok tt = subst (λ (i : Bool). test_of number s m false true i ≡ Ok tt) c.0
-        (subst (λ (i : Bool). test_of number s m false i (s.level == m.level) ≡ Ok tt) b.0 (subst (λ (i : Bool). test_of number s m i (s.species == m.species) (s.level == m.level) ≡ Ok tt) a.0 e)) in cc)
+    by (inr a) (inl b) (inl c) e =
+        let both_ok = first_ok (tested_hp form number s m) (tested_uses number s m) (subst (λ (i : Bool). test_of form number s m false true i ≡ Ok tt) c.0
+        (subst (λ (i : Bool). test_of form number s m false i (s.level == m.level) ≡ Ok tt) b.0 (subst (λ (i : Bool). test_of form number s m i (s.species == m.species) (s.level == m.level) ≡ Ok tt) a.0 e))) in
+        record { species = b.1; level = c.1; hp = told_as form number s m both_ok.0; uses = uses_fit number s m both_ok.1 }
+    by (inr a) (inl b) (inr c) e = absurd (let no : Err (faults.Member number) ≡ Ok tt = subst (λ (i : Bool). test_of form number s m false true i ≡ Ok tt) c.0
+        (subst (λ (i : Bool). test_of form number s m false i (s.level == m.level) ≡ Ok tt) b.0 (subst (λ (i : Bool). test_of form number s m i (s.species == m.species) (s.level == m.level) ≡ Ok tt) a.0 e)) in cc)
     by (inr a) (inr b) c e = absurd (let no : Err (faults.Member number) ≡ Ok tt =
-        subst (λ (i : Bool). test_of number s m false i (s.level == m.level) ≡ Ok tt) b.0 (subst (λ (i : Bool). test_of number s m i (s.species == m.species) (s.level == m.level) ≡ Ok tt) a.0 e) in cc)
+        subst (λ (i : Bool). test_of form number s m false i (s.level == m.level) ≡ Ok tt) b.0 (subst (λ (i : Bool). test_of form number s m i (s.species == m.species) (s.level == m.level) ≡ Ok tt) a.0 e) in cc)
 
 pub record Fits (p : Player) (x : PublicSide) (fresh : List MemberState) : Type 0 where
   pub own_out : p.own.place ≢ 0
   pub foe_out : x.place ≢ 0
   pub going : p.own.outcome ≡ 0
-  pub members : (k : ℕ) → k < 6 → (seen_in k x.members).species ≢ 0 → FitsMember (seen_in k x.members) (slice_index_or fresh k no_member)
+  pub members : (k : ℕ) → k < 6 → (seen_in k x.members).species ≢ 0 → FitsMember p.hp_form (seen_in k x.members) (slice_index_or fresh k no_member)
   pub last : IsUse x.last_move (place_in x.place fresh)
 
-abbrev At : PublicSide → List MemberState → ℕ → ℕ → Type 0
-At x fresh k number = at_index k x.members fresh number ≡ Ok tt
+abbrev At : ℕ → PublicSide → List MemberState → ℕ → ℕ → Type 0
+At form x fresh k number = at_index form k x.members fresh number ≡ Ok tt
 
-members_fit : (x : PublicSide) (fresh : List MemberState) → tested_members x.members fresh ≡ Ok tt
-    → (k : ℕ) → k < 6 → (seen_in k x.members).species ≢ 0 → FitsMember (seen_in k x.members) (slice_index_or fresh k no_member)
+members_fit : (form : ℕ) (x : PublicSide) (fresh : List MemberState) → tested_members form x.members fresh ≡ Ok tt
+    → (k : ℕ) → k < 6 → (seen_in k x.members).species ≢ 0 → FitsMember form (seen_in k x.members) (slice_index_or fresh k no_member)
 unfolding tested_members
-members_fit x fresh e =
+members_fit form x fresh e =
     let e0 = first_ok _ _ e in
     let e1 = first_ok _ _ e0.1 in
     let e2 = first_ok _ _ e1.1 in
@@ -276,24 +286,18 @@ members_fit x fresh e =
     let e4 = first_ok _ _ e3.1 in
     by (e0.0) (e1.0) (e2.0) (e3.0) (e4.0) (e4.1)
   where
-    by : At x fresh 0 1 → At x fresh 1 2 → At x fresh 2 3 → At x fresh 3 4 → At x fresh 4 5 → At x fresh 5 6 → (k : ℕ) → k < 6 → (seen_in k x.members).species ≢ 0 → FitsMember (seen_in k x.members) (slice_index_or fresh k no_member)
-    by a b c d f g zero low z = member_fits 1 _ _ a z
-    by a b c d f g (suc zero) low z = member_fits 2 _ _ b z
-    by a b c d f g (suc (suc zero)) low z = member_fits 3 _ _ c z
-    by a b c d f g (suc (suc (suc zero))) low z = member_fits 4 _ _ d z
-    by a b c d f g (suc (suc (suc (suc zero)))) low z = member_fits 5 _ _ f z
-    by a b c d f g (suc (suc (suc (suc (suc zero))))) low z = member_fits 6 _ _ g z
+    by : At form x fresh 0 1 → At form x fresh 1 2 → At form x fresh 2 3 → At form x fresh 3 4 → At form x fresh 4 5 → At form x fresh 5 6
+        → (k : ℕ) → k < 6 → (seen_in k x.members).species ≢ 0 → FitsMember form (seen_in k x.members) (slice_index_or fresh k no_member)
+    by a b c d f g zero low z = member_fits form 1 _ _ a z
+    by a b c d f g (suc zero) low z = member_fits form 2 _ _ b z
+    by a b c d f g (suc (suc zero)) low z = member_fits form 3 _ _ c z
+    by a b c d f g (suc (suc (suc zero))) low z = member_fits form 4 _ _ d z
+    by a b c d f g (suc (suc (suc (suc zero)))) low z = member_fits form 5 _ _ f z
+    by a b c d f g (suc (suc (suc (suc (suc zero))))) low z = member_fits form 6 _ _ g z
     by a b c d f g (suc (suc (suc (suc (suc (suc k)))))) low z = absurd (omega (arith, low))
 
 is_not : (n : ℕ) → not (n == 0) ≡ true → n ≢ 0
 is_not n e z = false≢true (sym (ap (λ (i : ℕ). not (i == 0)) z) ∙ e)
-
-is_zero : (n : ℕ) → (n == 0) ≡ true → n ≡ 0
-is_zero n e = by (eqb_tells n 0)
-  where
-    by : (((n == 0) ≡ true) × (n ≡ 0)) ⊎ (((n == 0) ≡ false) × (n ≢ 0)) → n ≡ 0
-    by (inl a) = a.1
-    by (inr a) = absurd (false≢true (sym a.0 ∙ e))
 
 pub guess_fits : (p : Player) (x : PublicSide) (count : ℕ) (fresh : List MemberState) → tested p x count fresh ≡ Ok tt → Fits p x fresh
 unfolding tested
@@ -307,8 +311,8 @@ guess_fits p x count fresh e =
     record {
       own_out = is_not p.own.place out.0;
       foe_out = is_not x.place out.1;
-      going = is_zero p.own.outcome going.0;
-      members = members_fit x fresh e2.0;
+      going = equal p.own.outcome 0 going.0;
+      members = members_fit p.hp_form x fresh e2.0;
       last = use_of x.place x.last_move (place_in x.place fresh) e2.1;
     }
 

@@ -363,6 +363,17 @@ module _ (t : Teller) (w : PublicSide) (k : FoeKept t.places w.place w.members) 
           let at : slot_of w.place t.places ≡ o.0 = kept-slot w.place t.places o.0 k.full k.kept o.1 o.2 e.1 in
           (o.0, o.1, left (w.place == 0) 0 (slot_of w.place t.places + 1) e.0 ∙ ap (λ (n : ℕ). n + 1) at, held o.0 o.1 (λ q. e.1 (sym o.2 ∙ q)))
 
+  -- A member that has appeared, as its side knows it.
+  pub known_told : (i : ℕ) → (seen_in i (foe_as_told t w).members).species ≢ 0
+      → (get_or t.places i 0 ≢ 0) × (seen_in i (foe_as_told t w).members ≡ with_hp_told t (seen_at (get_or t.places i 0) w))
+  known_told i z = by (below_or i 6)
+    where
+      by : (i < 6) ⊎ (6 ≤ i) → (get_or t.places i 0 ≢ 0) × (seen_in i (foe_as_told t w).members ≡ with_hp_told t (seen_at (get_or t.places i 0) w))
+      by (inl low) =
+          let there = met i low z in
+          (there, seen_told i low ∙ left (get_or t.places i 0 == 0) not_seen (with_hp_told t (seen_at (get_or t.places i 0) w)) (is-some (get_or t.places i 0) there))
+      by (inr past) = absurd (z (ap (λ (s : Seen). s.species) (get_or_past (foe_as_told t w).members i not_seen (let six = numbered.six in omega (arith, past, six)))))
+
   -- The active member, as the log shows it.
   pub out_told : (foe_as_told t w).place ≢ 0
       → ((foe_as_told t w).place - 1 < 6) × (w.place ≢ 0) × (seen_in ((foe_as_told t w).place - 1) (foe_as_told t w).members ≡ with_hp_told t (seen_at w.place w))

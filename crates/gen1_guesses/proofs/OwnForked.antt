@@ -1,4 +1,4 @@
--- The player's own side in a battle that fits: it is shown the same. What is public agrees with sides that look the same.
+-- The player's own side in a battle that fits: it is shown the same. Its public facts agree with sides that look the same.
 use Rattle.std.proofs.Common.{Bool, List, [], ap, arith, false, get_or, inl, inr, is_some, length, map, refl, slice_index, slice_index_or, subst, suc, sym, true, unwrap_or, zero, ℕ, ◌%◌, ◌*◌, ◌+◌, ◌-◌, ◌/◌, ◌<◌, ◌==◌, ◌∙◌, ◌∷◌, ◌≡◌, ◌≢◌, ◌≤◌, ◌⊎◌, ◌||◌, cond, lit<, ◌&&◌}
 use Rattle.std.proofs.Math.ListN.{get_or-map}
 use Rattle.std.specs.Prelude.{nat_lt, if◌then◌else◌}
@@ -568,7 +568,7 @@ own_sleeps clause truth o x y s f b w h few same view has short sleeps place z =
         (ap (λ (n : MemberState). n.sleep) made ∙ ap (λ (q : Seen). sleep_of m.status q) (same k low z) ∙ ap (λ (i : ℕ). sleep_of i (seen_at place y)) (sym (ap (λ (n : MemberState). n.status) made)))
         (ap (λ (n : MemberState). n.status) made ∙ shown) (short place z)
 
--- The same is shown
+-- The side is shown the same
 
 abbrev side_made : List OwnMember → ℕ → List ℕ → ℕ → ℕ → List ℕ → List ℕ → ℕ → ℕ → ℕ → ℕ → ℕ → OwnSide
 side_made members conditions stats turn place types stages slot held request outcome count = record {

@@ -1,10 +1,11 @@
 -- The battle that fits what a player knows, its state (docs/MECHANICS.md, "A battle that fits"), and what holds of it.
-use Rattle.std.specs.Prelude.{Bool, Err, List, None, Ok, Option, Result, Some, [], if◌then◌else◌, length, ℕ, ◌==◌, ◌∷◌, ◌+◌, ◌<◌, ◌≡◌, ◌≢◌, ◌≤◌}
+use Rattle.std.specs.Prelude.{Bool, Err, List, None, Ok, Option, Result, Some, [], if◌then◌else◌, length, slice_index_or, true, ℕ, ◌==◌, ◌∷◌, ◌+◌, ◌<◌, ◌≡◌, ◌≢◌, ◌≤◌}
 use Rattle.gen1_stats.specs.Members.{Member, IsTeam}
 use Rattle.gen1_machine.specs.declared.side.Side.{Side}
 use Rattle.gen1_machine.specs.declared.side.Side.TheVariants.{One, Two}
 use Rattle.gen1_machine.specs.Rules.{bits_of_rules}
 use Rattle.gen1_machine.specs.Sides.{other}
+use Rattle.gen1_player.specs.declared.hp_form.HpForm.{HpForm}
 use Rattle.gen1_player.specs.declared.own.OwnSide.{OwnSide}
 use Rattle.gen1_player.specs.declared.player.Player.{Player}
 use Rattle.gen1_player.specs.declared.public_side.PublicSide.{PublicSide}
@@ -14,13 +15,13 @@ use Rattle.gen1_states.specs.declared.plain.MemberState.{MemberState}
 use Rattle.gen1_states.specs.declared.plain.SideState.{SideState}
 use Rattle.gen1_guesses.specs.Active.{active_state, foe_known, is_on, own_known}
 use Rattle.gen1_guesses.specs.Members.{fresh_members, member_at, members_of, own_members, hp_of, seen_in}
-use Rattle.gen1_guesses.specs.Tests.{tested, Tested}
+use Rattle.gen1_guesses.specs.Tests.{allows_max, tested, Tested}
 use Rattle.gen1_guesses.specs.declared.fault.GuessFault.{GuessFault}
 use Rattle.gen1_guesses.specs.declared.fault.GuessFault.TheVariants as faults
 use Rattle.gen1_guesses.specs.declared.guess.Guess.{Guess}
 use Rattle.gen1_rolls.specs.Streams.{IsStream, Link}
 use Rattle.gen1_machine.specs.declared.choice.Choice.{Choice}
-use Rattle.gen1_machine.specs.State.{first_state, party, Field, State, Terms}
+use Rattle.gen1_machine.specs.State.{first_state, member_at as member_of, party, Field, State, Terms}
 use Rattle.gen1_machine.specs.Step.{run, Ran}
 use Rattle.gen1_machine.specs.Valid.{IsTerms}
 use Rattle.gen1_machine.specs.View.{shows}
@@ -28,12 +29,11 @@ use Rattle.gen1_events.specs.Splits.{IsReading}
 use Rattle.gen1_layout.specs.Parts.{parts_of}
 use Rattle.gen1_layout.specs.Within.{Stands}
 use Rattle.gen1_player.specs.declared.public.Public.{Public}
-use Rattle.gen1_player.specs.declared.seen.Seen.{Seen}
 use Rattle.gen1_player.specs.declared.teller.Teller.{Teller}
 use Rattle.gen1_player.specs.OwnSide.{own_side}
 use Rattle.gen1_player.specs.PlainOwnSide.{plain_side}
 use Rattle.gen1_player.specs.Player.{IsPlayer}
-use Rattle.gen1_player.specs.Telling.{form_of, told_all, told_in, IsTeller}
+use Rattle.gen1_player.specs.Telling.{form_number, form_of, meets_all, told_all, told_in, IsTeller}
 use Rattle.gen1_player.specs.True.{as_known, events_in, first_teller, team_of, AgreesWith, BothDo, IsTold, SideHasAppeared, SideSleeps}
 use Rattle.gen1_states.specs.Bytes.{bytes_of}
 use Rattle.gen1_states.specs.Completed.{completed}
@@ -105,14 +105,16 @@ guessed_state p g = by_side (side_of p.side) p g
 
 -- What holds of a battle that fits
 
--- The player of a side after a run, as the code can hold it: it was fed its side's log, and it was shown its own side last.
-pub record HasPlayer (s : Side) (form : ℕ) (one two : List Member) (r : Ran) (p : Player) : Type 0 where
+-- The player of a side after a run, as the code can hold it: it was fed what a teller told its side, in the player's form of HP, and it was
+-- shown its own side last.
+pub record HasPlayer (s : Side) (one two : List Member) (r : Ran) (p : Player) : Type 0 where
   pub foes : ℕ
+  pub form : HpForm
   pub offered : ℕ
   pub log : List ℕ
-  pub told : IsReading log (told_all (events_in r) (first_teller s form))
+  pub told : IsReading log (told_all (events_in r) (first_teller s (form_number form)))
   pub slots : (k : ℕ) → length (seen_in k (public_side (other s) p.public).members).moves ≡ 5
-  pub is : IsPlayer s (team_of s one two) foes log (record { own = plain_side (own_side s r.state.field); offered = offered }) p
+  pub is : IsPlayer s (team_of s one two) foes form log (record { own = plain_side (own_side s r.state.field); offered = offered }) p
 
 -- A guess as the code can hold it.
 pub record IsGuess (g : Guess) : Type 0 where
@@ -141,21 +143,32 @@ MayBeTold form n whole most = (hp : ℕ) × (hp ≤ most) × IsToldAs form n who
 abbrev pub ForksTellHp : Type 0
 ForksTellHp = (form n whole most : ℕ) → 11 ≤ most → MayBeTold form n whole most → IsToldAs form n whole (hp_of n whole most) most
 
--- The members of the guess may have HP that the player learns as it did.
-abbrev pub MayHaveHp : Side → ℕ → Player → Guess → Type 0
-MayHaveHp s form p g = (k : ℕ) → let m : Seen = seen_in k (public_side (other s) p.public).members in
-    m.species ≢ 0 → MayBeTold form m.hp m.max (member_at (k + 1) (fresh_members g.team)).max_hp
+-- A statement about a player after any run of a battle of two teams from its start.
+abbrev pub OfPlayers : ((s : Side) (one two : List Member) → Ran → Player → Type 0) → Type 0
+OfPlayers says = (t : Terms) (one two : List Member) (seed : List ℕ) (pairs : List (Choice × Choice))
+    → IsTerms t → IsStream (Link seed) → IsTeam one → IsTeam two
+    → (s : Side) (p : Player) → HasPlayer s one two (run (first_state t one two seed) pairs) p
+    → says s one two (run (first_state t one two seed) pairs) p
+
+-- The place of the foe's member that has appeared with a number, which counts from 0.
+abbrev pub place_of : ℕ → Side → Ran → Player → ℕ
+place_of k s r p = slice_index_or (meets_all (events_in r) (first_teller s p.hp_form)).places k 0
+
+-- No guess with the true maximum of a member is refused for the member's HP.
+abbrev pub TrueHpFits : Type 0
+TrueHpFits = OfPlayers λ s one two r p. (k : ℕ) → (seen_in k (public_side (other s) p.public).members).species ≢ 0
+    → allows_max p.hp_form (seen_in k (public_side (other s) p.public).members) (member_of (place_of k s r p) (party (other s) r.state.field)).max ≡ true
 
 -- The whole
 
--- The player is shown this side of the battle as its own. What it holds as public is what a side knows (`PlayersHoldThePublic`) of something
--- that agrees with the battle, as the log of a run does (`PublicAgrees`, `ConditionsAgree`, `ActivesAgree`, `MembersAgree`, `SleepersAgree`)
--- by the rules of the guess.
-pub record AgreesWithFork (s : Side) (form : ℕ) (team : List Member) (p : Player) (clause : Bool) (f : Field) : Type 0 where
+-- The player is shown this side of the battle as its own. The public facts that it holds are what a side knows (`PlayersHoldThePublic`) of
+-- something that agrees with the battle, as the log of a run does (`PublicAgrees`, `ConditionsAgree`, `ActivesAgree`, `MembersAgree`,
+-- `SleepersAgree`) by the rules of the guess.
+pub record AgreesWithFork (s : Side) (team : List Member) (p : Player) (clause : Bool) (f : Field) : Type 0 where
   pub own : plain_side (own_side s f) ≡ p.own
   pub teller : Teller
   pub is_teller : IsTeller s teller
-  pub form_is : teller.pixels ≡ form
+  pub form_is : teller.pixels ≡ p.hp_form
   pub public : Public
   pub known : p.public ≡ as_known s team teller public
   pub view : AgreesWith public (shows f)
@@ -168,7 +181,5 @@ pub record AgreesWithFork (s : Side) (form : ℕ) (team : List Member) (p : Play
 
 -- After any run of a battle of two teams from its start, of a player and any guess that fits.
 abbrev pub ForksAgree : Type 0
-ForksAgree = (t : Terms) (one two : List Member) (seed : List ℕ) (pairs : List (Choice × Choice))
-    → IsTerms t → IsStream (Link seed) → IsTeam one → IsTeam two
-    → (s : Side) (form : ℕ) (p : Player) → form ≤ 2 → HasPlayer s form one two (run (first_state t one two seed) pairs) p
-    → (g : Guess) (f : State) → IsGuess g → MayHaveHp s form p g → IsFork p g f → AgreesWithFork s form (team_of s one two) p g.rules.sleep_clause f.field
+ForksAgree = OfPlayers λ s one two r p. (g : Guess) (f : State) → IsGuess g → IsFork p g f
+    → AgreesWithFork s (team_of s one two) p g.rules.sleep_clause f.field

@@ -85,7 +85,7 @@ pp_in k uses m = slice_index m.pp k - uses_of (slice_index m.moves k) uses
 abbrev pub pp_left : List SeenMove → MemberState → List ℕ
 pp_left uses m = pp_in 0 uses m ∷ pp_in 1 uses m ∷ pp_in 2 uses m ∷ pp_in 3 uses m ∷ []
 
--- A member of the foe that has appeared has the status and HP that were told, and the PP that its uses have left.
+-- A member of the foe that has appeared has the reported status and HP, and the PP that its uses have left.
 abbrev pub told : Bool → Seen → MemberState → MemberState
 told clause s m = record m {
   status = s.status;

@@ -1,14 +1,15 @@
 -- Whether a guess fits what a player knows (docs/MECHANICS.md, "A battle that fits").
-use Rattle.std.specs.Prelude.{Bool, Err, List, Ok, Result, if◌then◌else◌, not, slice_index, slice_index_or, ℕ, ◌&&◌, ◌==◌, ◌||◌}
+use Rattle.std.specs.Prelude.{Bool, Err, List, None, Ok, Result, if◌then◌else◌, nat_le, not, slice_index, slice_index_or, ℕ, ◌&&◌, ◌==◌, ◌||◌}
 use Rattle.gen1_tables.specs.Moves.{struggle}
 use Rattle.gen1_player.specs.Public.{not_seen, not_used}
+use Rattle.gen1_player.specs.Telling.{form_of, told_in}
 use Rattle.gen1_player.specs.declared.player.Player.{Player}
 use Rattle.gen1_player.specs.declared.public_side.PublicSide.{PublicSide}
 use Rattle.gen1_player.specs.declared.seen.Seen.{Seen}
 use Rattle.gen1_states.specs.Faults.{◌▸◌}
 use Rattle.gen1_states.specs.Plain.{no_member}
 use Rattle.gen1_states.specs.declared.plain.MemberState.{MemberState}
-use Rattle.gen1_guesses.specs.Members.{member_at}
+use Rattle.gen1_guesses.specs.Members.{hp_of, member_at}
 use Rattle.gen1_guesses.specs.declared.fault.GuessFault.{GuessFault}
 use Rattle.gen1_guesses.specs.declared.fault.GuessFault.TheVariants as faults
 
@@ -44,23 +45,35 @@ tested_uses number s m =
     tested_use number (id_in 0 s) m ▸ tested_use number (id_in 1 s) m ▸ tested_use number (id_in 2 s) m ▸ tested_use number (id_in 3 s) m
     ▸ tested_use number (id_in 4 s) m
 
--- A member that has appeared is the one of the guess.
-abbrev pub tested_member : ℕ → Seen → MemberState → Tested
-tested_member number s m =
+-- In this form, HP of this maximum are reported as this number of this whole.
+abbrev pub is_told_as : ℕ → ℕ → ℕ → ℕ → ℕ → Bool
+is_told_as form n whole hp most =
+    let h = told_in (form_of form) (record { hp = hp; max = most; kind = None }) in h.hp == n && h.max == whole
+
+-- The reported HP of a member allow this maximum: its HP in the battle are reported so.
+abbrev pub allows_max : ℕ → Seen → ℕ → Bool
+allows_max form s most = (nat_le 11 most && nat_le most 999) && is_told_as form s.hp s.max (hp_of s.hp s.max most) most
+
+abbrev pub tested_hp : ℕ → ℕ → Seen → MemberState → Tested
+tested_hp form number s m = unless (allows_max form s m.max_hp) (faults.Hp number)
+
+-- A member that has appeared is the one of the guess, which can have the reported HP.
+abbrev pub tested_member : ℕ → ℕ → Seen → MemberState → Tested
+tested_member form number s m =
     if s.species == 0 then Ok tt
-    else if s.species == m.species && s.level == m.level then tested_uses number s m
+    else if s.species == m.species && s.level == m.level then tested_hp form number s m ▸ tested_uses number s m
     else Err (faults.Member number)
 
-abbrev pub at_index : ℕ → List Seen → List MemberState → ℕ → Tested
-at_index k seen fresh number = tested_member number (slice_index_or seen k not_seen) (slice_index_or fresh k no_member)
+abbrev pub at_index : ℕ → ℕ → List Seen → List MemberState → ℕ → Tested
+at_index form k seen fresh number = tested_member form number (slice_index_or seen k not_seen) (slice_index_or fresh k no_member)
 
-unfoldable pub tested_members : List Seen → List MemberState → Tested
-tested_members seen fresh =
-    at_index 0 seen fresh 1 ▸ at_index 1 seen fresh 2 ▸ at_index 2 seen fresh 3 ▸ at_index 3 seen fresh 4 ▸ at_index 4 seen fresh 5
-    ▸ at_index 5 seen fresh 6
+unfoldable pub tested_members : ℕ → List Seen → List MemberState → Tested
+tested_members form seen fresh =
+    at_index form 0 seen fresh 1 ▸ at_index form 1 seen fresh 2 ▸ at_index form 2 seen fresh 3 ▸ at_index form 3 seen fresh 4
+    ▸ at_index form 4 seen fresh 5 ▸ at_index form 5 seen fresh 6
 
 -- The first fact that does not fit, of a guess with so many members. The last is the move that the foe's active member used last.
 unfoldable pub tested : Player → PublicSide → ℕ → List MemberState → Tested
 tested p foe count fresh =
-    tested_going p foe ▸ tested_count p.foes count ▸ tested_members foe.members fresh
+    tested_going p foe ▸ tested_count p.foes count ▸ tested_members p.hp_form foe.members fresh
     ▸ tested_use foe.place foe.last_move (member_at foe.place fresh)

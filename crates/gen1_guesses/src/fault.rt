@@ -10,6 +10,8 @@ pub enum GuessFault {
     Count(u8),
     /// The member that appeared with this number, from 1, has another species or level in the guess, or is not in it.
     Member(u8),
+    /// The member that appeared with this number can't have the reported HP, with the maximum HP of the guess.
+    Hp(u8),
     /// The member that appeared with this number was seen to use the move with the second number, and doesn't know it in the guess.
     Move(u8, u8),
     /// The resulting state is not that of a battle.

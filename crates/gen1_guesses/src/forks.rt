@@ -5,7 +5,7 @@ ghost use Rattle.gen1_layout.specs.Parts.{parts_of};
 ghost use Rattle.gen1_states.specs.Bytes.{bytes_of};
 ghost use Rattle.gen1_states.specs.Completed.{completed};
 ghost use Rattle.gen1_states.specs.WholeTests.{fault_of};
-ghost use Rattle.gen1_guesses.specs.Forks.{ForksAgree, ForksTellHp, foe_part, foe_request, forked, guessed_for, guessed_state, in_order, own_part, side_of};
+ghost use Rattle.gen1_guesses.specs.Forks.{ForksAgree, ForksTellHp, TrueHpFits, foe_part, foe_request, forked, guessed_for, guessed_state, in_order, own_part, side_of};
 ghost use Rattle.gen1_guesses.specs.declared.fault.GuessFault.TheVariants as faults;
 
 use crate::active::{active_state, foe_known, is_on, own_known};
@@ -168,9 +168,14 @@ pub fn forks_tell_hp()
     ensures { ForksTellHp }
 {}
 
-/// Take the player of a side after any run from the start, and any guess that fits, whose maximum HP allow the numbers that the player
-/// learned. In the battle that fits, the side is shown the same of itself, and what the player holds as public agrees with it, as the
-/// five `.._agree` of gen1_player say of a run by the guess's rules.
+/// After any run from the start, no guess that has the true maximum HP of a member is refused for its HP.
+#[tactic(auto, using(crate::proofs::Agreeing::true_hp_fits))]
+pub fn true_hp_fits()
+    ensures { TrueHpFits }
+{}
+
+/// After any run from the start, a battle that fits a side's player shows the side the same of itself, and what the player holds as public
+/// agrees with it, as the five `.._agree` of gen1_player say of a run by the guess's rules.
 pub fn forks_agree()
     ensures { ForksAgree }
 {}

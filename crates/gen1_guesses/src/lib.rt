@@ -16,5 +16,6 @@ mod members;
 mod tests;
 
 pub use fault::GuessFault;
-pub use forks::{forks_agree, forks_tell_hp, from_player, guessed_state};
+pub use forks::{forks_agree, forks_tell_hp, from_player, guessed_state, true_hp_fits};
 pub use guess::Guess;
+pub use tests::allows_max;

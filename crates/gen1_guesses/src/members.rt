@@ -174,7 +174,7 @@ fn no_member() -> MemberState
     }
 }
 
-/// The foe's members: those that have appeared as they were told, with the moves and stats of the guess, and the others of the guess.
+/// The foe's members: those that have appeared as they were reported, with the moves and stats of the guess, and the others of the guess.
 pub(crate) fn members_of(
     clause: bool,
     seen: &[Seen; 6],
@@ -222,9 +222,9 @@ fn told(clause: bool, seen: &Seen, fresh: &MemberState) -> MemberState
     }
 }
 
-// The least HP of a member with this maximum that a player learns as this part of a whole; its maximum at most. Of hundredths, which are
-// rounded up, it is the most.
-fn hp_of(told: u16, whole: u16, max: u16) -> u16
+/// The least HP of a member with this maximum that a player learns as this part of a whole; its maximum at most. Of hundredths, which are
+/// rounded up, it is the most.
+pub(crate) fn hp_of(told: u16, whole: u16, max: u16) -> u16
     ensures value { result ≡ hp_of told whole max }
     ensures full { result ≤ max }
 {

@@ -1,10 +1,11 @@
 //! Whether a guess fits what a player knows (docs/MECHANICS.md, "A battle that fits").
 ghost use Rattle.std.specs.Prelude.{◌<◌, ◌≡◌};
-ghost use Rattle.gen1_guesses.specs.Tests.{at_index, id_in, knows, tested, tested_count, tested_going, tested_member, tested_members, tested_use, tested_uses};
+ghost use Rattle.gen1_guesses.specs.Tests.{at_index, allows_max, id_in, knows, tested, tested_count, tested_going, tested_hp, tested_member, tested_members, tested_use, tested_uses};
 
 use crate::fault::GuessFault;
-use crate::members::member_at;
-use gen1_player::{Player, PublicSide, Seen};
+use crate::members::{hp_of, member_at};
+use gen1_machine::Health;
+use gen1_player::{HpForm, Player, PublicSide, Seen};
 use gen1_states::MemberState;
 
 // The number of Struggle, which every member may use.
@@ -22,7 +23,7 @@ pub(crate) fn test(
 {
     test_going(player, foe)?;
     test_count(player.foes, count)?;
-    test_members(&foe.members, fresh)?;
+    test_members(player.hp_form, &foe.members, fresh)?;
     test_use(foe.place, foe.last_move, &member_at(foe.place, fresh))
 }
 
@@ -51,39 +52,65 @@ fn test_count(known: u8, count: u8) -> Result<(), GuessFault>
 }
 
 #[tactic(auto, unfolding(crate::specs::Tests::tested_members))]
-fn test_members(seen: &[Seen; 6], fresh: &[MemberState; 6]) -> Result<(), GuessFault>
-    ensures { result ≡ tested_members seen.now fresh.now }
+fn test_members(form: u8, seen: &[Seen; 6], fresh: &[MemberState; 6]) -> Result<(), GuessFault>
+    ensures { result ≡ tested_members form seen.now fresh.now }
 {
-    test_at(0, seen, fresh, 1)?;
-    test_at(1, seen, fresh, 2)?;
-    test_at(2, seen, fresh, 3)?;
-    test_at(3, seen, fresh, 4)?;
-    test_at(4, seen, fresh, 5)?;
-    test_at(5, seen, fresh, 6)
+    test_at(form, 0, seen, fresh, 1)?;
+    test_at(form, 1, seen, fresh, 2)?;
+    test_at(form, 2, seen, fresh, 3)?;
+    test_at(form, 3, seen, fresh, 4)?;
+    test_at(form, 4, seen, fresh, 5)?;
+    test_at(form, 5, seen, fresh, 6)
 }
 
 fn test_at(
+    form: u8,
     index: usize,
     seen: &[Seen; 6],
     fresh: &[MemberState; 6],
     number: u8,
 ) -> Result<(), GuessFault>
     requires { index < 6 }
-    ensures { result ≡ at_index index seen.now fresh.now number }
+    ensures { result ≡ at_index form index seen.now fresh.now number }
 {
-    test_member(number, &seen[index], &fresh[index])
+    test_member(form, number, &seen[index], &fresh[index])
 }
 
-// A member that has appeared is the one of the guess.
-fn test_member(number: u8, seen: &Seen, fresh: &MemberState) -> Result<(), GuessFault>
-    ensures { result ≡ tested_member number seen.now fresh.now }
+// A member that has appeared is the one of the guess, which can have the reported HP.
+fn test_member(form: u8, number: u8, seen: &Seen, fresh: &MemberState) -> Result<(), GuessFault>
+    ensures { result ≡ tested_member form number seen.now fresh.now }
 {
     if seen.species == 0 {
         Ok(())
     } else if seen.species == fresh.species && seen.level == fresh.level {
+        test_hp(form, number, seen, fresh)?;
         test_uses(number, seen, fresh)
     } else {
         Err(GuessFault::Member(number))
+    }
+}
+
+fn test_hp(form: u8, number: u8, seen: &Seen, fresh: &MemberState) -> Result<(), GuessFault>
+    ensures { result ≡ tested_hp form number seen.now fresh.now }
+{
+    if allows_max(form, seen, fresh.max_hp) {
+        Ok(())
+    } else {
+        Err(GuessFault::Hp(number))
+    }
+}
+
+/// Returns whether the reported HP of a member, in the form with a number, allow a maximum: whether its HP in a battle that fits are reported
+/// so. Where they are not, no HP of this maximum are (`forks_tell_hp`).
+pub fn allows_max(form: u8, seen: &Seen, most: u16) -> bool
+    ensures { result ≡ allows_max form seen.now most }
+{
+    match Health::new(hp_of(seen.hp, seen.max, most), most, None) {
+        Some(health) => {
+            let told = HpForm::of_number(form).tell(health);
+            told.hp() == seen.hp && told.max() == seen.max
+        }
+        None => false,
     }
 }
 

@@ -7,6 +7,7 @@ use Rattle.gen1_machine.specs.declared.side.Side.{Side}
 use Rattle.gen1_machine.specs.Numbers.{side_number}
 use Rattle.gen1_events.specs.Reader.{IsPart}
 use Rattle.gen1_events.specs.Splits.{Splits}
+use Rattle.gen1_player.specs.declared.hp_form.HpForm.{HpForm}
 use Rattle.gen1_player.specs.declared.own.OwnSide.{OwnSide}
 use Rattle.gen1_player.specs.declared.own.OwnMember.{OwnMember}
 use Rattle.gen1_player.specs.declared.player.Player.{Player}
@@ -14,6 +15,7 @@ use Rattle.gen1_player.specs.declared.public.Public.{Public}
 use Rattle.gen1_player.specs.declared.public_side.PublicSide.{PublicSide}
 use Rattle.gen1_player.specs.declared.seen.Seen.{Seen}
 use Rattle.gen1_player.specs.Public.{first_public, first_public_side, hears_all, not_seen, on_public_side}
+use Rattle.gen1_player.specs.Telling.{form_number}
 
 -- A side knows its own members before they appear.
 abbrev pub known_member : Member → Seen
@@ -67,8 +69,8 @@ pub record Shown : Type 0 where
   pub offered : ℕ
 
 -- The player after some events, with the bytes of an event that has come in part.
-abbrev pub player_of : Side → List Member → ℕ → List Event → List ℕ → Shown → Player
-player_of side team foes events held shown = record {
+abbrev pub player_of : Side → List Member → ℕ → HpForm → List Event → List ℕ → Shown → Player
+player_of side team foes form events held shown = record {
   public = hears_all events (first_known side team);
   own = shown.own;
   offered = shown.offered;
@@ -76,7 +78,7 @@ player_of side team foes events held shown = record {
   foes = foes;
   held_count = length held;
   held = held ++ replicate (10 - length held) 0;
-  unused = 0;
+  hp_form = form_number form;
 }
 
 -- What a feed leaves of any bytes, valid or not: at most ten bytes are held, with zeros after them, and no more changes than these and
@@ -86,11 +88,11 @@ pub record IsFed (old new : Player) : Type 0 where
   pub zeros : new.held ≡ take new.held_count new.held ++ replicate (10 - new.held_count) 0
   pub others : new ≡ record old { public = new.public; held_count = new.held_count; held = new.held }
 
--- It knows what follows from its side and team, the number of the foe's members (0 if it wasn't given), the bytes that it was told, and
--- what it was shown last; and nothing else.
-pub record IsPlayer (side : Side) (team : List Member) (foes : ℕ) (told : List ℕ) (shown : Shown) (player : Player) : Type 0 where
+-- It knows what follows from its side and team, the number of the foe's members (0 if it wasn't given), the form of their HP, the bytes that
+-- it was told, and what it was shown last; and nothing else.
+pub record IsPlayer (side : Side) (team : List Member) (foes : ℕ) (form : HpForm) (told : List ℕ) (shown : Shown) (player : Player) : Type 0 where
   pub events : List Event
   pub held : List ℕ
   pub splits : Splits told events held
   pub part : IsPart held
-  pub is : player ≡ player_of side team foes events held shown
+  pub is : player ≡ player_of side team foes form events held shown

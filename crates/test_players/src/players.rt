@@ -790,7 +790,12 @@ fn what_is_not_a_log_is_not_told(rt: HostRuntime) -> Result<(), Fail> {
 
 #[test]
 fn a_player_knows_its_own_team_and_nothing_of_the_foe(rt: HostRuntime) -> Result<(), Fail> {
-    let player = Player::new(ONE, &lead_and_chansey(&["Strength"])?, 0);
+    let player = Player::new(
+        ONE,
+        &lead_and_chansey(&["Strength"])?,
+        0,
+        HpForm::Hundredths,
+    );
     let lead = player.public.one.member(1);
     assert_same(&rt, (lead.species, lead.hp, lead.max), (TAUROS, 353, 353));
     let other: Seen = player.public.one.member(2);
@@ -802,6 +807,7 @@ fn a_player_knows_its_own_team_and_nothing_of_the_foe(rt: HostRuntime) -> Result
     assert_same(&rt, player.public.one.member(3).species, 0);
     assert_same(&rt, player.public.two.member(1).species, 0);
     assert_same(&rt, (player.side, player.foes, player.offered), (1, 0, 0));
+    assert_same(&rt, player.hp_form, 2);
     Ok(())
 }
 
@@ -815,7 +821,7 @@ fn a_player_is_fed_however_its_log_is_cut(rt: HostRuntime) -> Result<(), Fail> {
         Move(TWO, 57),
     ])?;
     for cut in 0..=log.len() {
-        let mut player = Player::new(ONE, &team, 6);
+        let mut player = Player::new(ONE, &team, 6, HpForm::Bar);
         assert_same(&rt, player.feed(&log.as_slice()[..cut]), Ok(()));
         assert_same(&rt, player.feed(&log.as_slice()[cut..]), Ok(()));
         assert_same(
@@ -834,7 +840,7 @@ fn a_player_is_fed_however_its_log_is_cut(rt: HostRuntime) -> Result<(), Fail> {
 
 #[test]
 fn a_fault_changes_nothing_of_a_player(rt: HostRuntime) -> Result<(), Fail> {
-    let mut player = Player::new(TWO, &lead_and_chansey(&["Strength"])?, 0);
+    let mut player = Player::new(TWO, &lead_and_chansey(&["Strength"])?, 0, HpForm::Bar);
     assert_same(&rt, player.feed(&[0x01, 7]), Ok(()));
     assert_same(
         &rt,

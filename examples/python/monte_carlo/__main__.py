@@ -47,6 +47,7 @@ def member_like(seen: gen1.Seen, dice: random.Random) -> Member:
     else:
         more = [move for it in sets for move in it.moves] or [Move.BODY_SLAM, Move.REST]
         moves = tuple(dict.fromkeys([*used, *more]))[:4]
+    # With all DVs and all experience, as the sample sets. Another maximum HP would be refused where HP is exact.
     return Member(seen.species, moves, level=seen.level)
 
 
@@ -94,7 +95,7 @@ def play(names: tuple[str, str], dice: random.Random, guesses: int) -> Outcome:
     host = Host(Battle(*sides, dice.randbytes(10)), exact_hp=True)
     known = {"fair": fair, "cheating": cheating(host), "random": at_random}
     bots = [known[it] for it in names]
-    players = [Player(side, team, foes=6) for side, team in zip(Side, sides)]
+    players = [Player(side, team, foes=6, hp_form=host.hp_form) for side, team in zip(Side, sides)]
     while True:
         for player in players:
             player.receive(host.message(player.side))

@@ -61,7 +61,7 @@ class Alone:
         self.players = [ctypes.create_string_buffer(ctypes.sizeof(PlayerStruct)) for _ in SIDES]
         for side, teller, player in zip(SIDES, self.tellers, self.players):
             assert LIB.gen1_teller_begin(teller, side, pixels) & 0xFF == 0
-            assert LIB.gen1_player_begin(player, side, given[side - 1], len(teams[2 - side])) == 0
+            assert LIB.gen1_player_begin(player, side, given[side - 1], len(teams[2 - side]), pixels) == 0
 
     @property
     def result(self):

@@ -5,6 +5,7 @@ import random
 import pytest
 from conftest import BIG, NO_NUMBERS, random_team
 from gen1 import (
+    HpForm,
     BadArgument,
     BadState,
     BadTeam,
@@ -26,19 +27,24 @@ ALAKAZAM = Member("Alakazam", ["Psychic"])
 CHANSEY = Member("Chansey", ["Ice Beam"])
 
 
-@pytest.fixture
-def player():
+def after_a_turn(hp_form):
     """Side 1 after the first turn of a battle with Alakazam, whose Psychic it has seen; its own Body Slam was used once."""
-    battle, teller, made = Battle([TAUROS], [ALAKAZAM, CHANSEY], SEED), Teller(1, pixels=False), Player(1, [TAUROS])
+    battle, teller, made = Battle([TAUROS], [ALAKAZAM, CHANSEY], SEED), Teller(1, hp_form=hp_form), Player(1, [TAUROS])
     for choice in (0, 17):
         teller.report(battle, battle.update(choice, choice).log, made)
     return made
 
 
+@pytest.fixture
+def player():
+    """Side 1 after that turn, which was told HP as they are."""
+    return after_a_turn(HpForm.EXACT)
+
+
 def test_what_is_known_and_what_is_guessed(player):
     """The log of the first turn: Tauros is left with 5 of 353 HP and a lower Special, Alakazam with 32 of 313."""
     guess = [
-        Member("Alakazam", ["Recover", "Psychic"], exp=[0, 65535, 65535, 65535, 65535]),
+        Member("Alakazam", ["Recover", "Psychic"], exp=[65535, 0, 65535, 65535, 65535]),
         Member("Gengar", ["Hypnosis"]),
     ]
     copy = Battle.from_player(player, guess, range(20, 30), rules=3, limit=50)
@@ -49,14 +55,29 @@ def test_what_is_known_and_what_is_guessed(player):
         and (state.turn, state.limit, state.rules) == (2, 50, 3)
     )
     assert state.numbers == tuple(range(20, 30)) and copy.choices(2) == (Choice.MOVE_1, Choice.MOVE_2, Choice.SWITCH_2)
-    # Without HP experience Alakazam has (55 + 15) * 2 + 110 = 250 HP, of which 32 of 313 are 25.6. Of 16 PP of Psychic one was used.
+    # Of 16 PP of Psychic one was used.
     alakazam = state.member(2, 1)
-    assert (alakazam.max_hp, alakazam.hp, alakazam.pp, alakazam.status) == (250, 26, (32, 15), Status.NONE)
+    assert (alakazam.max_hp, alakazam.hp, alakazam.pp, alakazam.status) == (313, 32, (32, 15), Status.NONE)
     assert (state.member(2, 2).hp, state.member(2, 2).max_hp, state.two.active.current_move) == (323, 323, 2)
     assert (
         copy.update(17, 18).log
         and type(type("Noted", (Battle,), {}).from_player(player, guess, SEED)).__name__ == "Noted"
     )
+
+
+def test_a_guess_has_hp_that_are_told_so(player):
+    """Without experience for HP Alakazam has (55 + 15) * 2 + 110 = 250 HP. The bar of 32 of 313 HP has 12 * 32 / 78 = 4 pixels, and so
+    has that of 21 of 250 (48 * 21 / 250), but not of 20. 32 of 313 are 11 hundredths, and so are 27 of 250, but not 28.
+    """
+    guess = [Member("Alakazam", ["Psychic"], exp=[0, 65535, 65535, 65535, 65535])]
+    for form, told, hp in ((HpForm.BAR, 4, 21), (HpForm.HUNDREDTHS, 11, 27)):
+        other = after_a_turn(form)
+        found = Battle.from_player(other, guess, SEED).state.member(2, 1)
+        assert (other.hp_form, other.foe.members[0].hp, found.hp, found.max_hp) == (form, told, hp, 250)
+    with pytest.raises(BadArgument) as fault:
+        Battle.from_player(player, guess, SEED)
+    assert str(fault.value) == "team: member 1 must have a maximum HP that allows 32 of 313 HP, as the player was told"
+    assert player.hp_form is HpForm.EXACT and Player(1, [TAUROS]).hp_form is HpForm.BAR
 
 
 def test_conditions_that_were_announced(player):
@@ -80,9 +101,8 @@ def test_random_battles():
     dice, count = random.Random(31), 0
     for _ in range(20):
         teams = random_team(dice), random_team(dice)
-        battle, tellers = Battle(*teams, dice.randbytes(10), dice.randint(0, 3), limit=40), [
-            Teller(it, pixels=False) for it in (1, 2)
-        ]
+        battle = Battle(*teams, dice.randbytes(10), dice.randint(0, 3), limit=40)
+        tellers = [Teller(it, hp_form=HpForm.EXACT) for it in (1, 2)]
         players = [Player(it, teams[it - 1]) for it in (1, 2)]
         while not battle.result.is_over:
             log = battle.update(*(dice.choice(battle.choices(it)) for it in (1, 2))).log

@@ -350,7 +350,7 @@ def test_random_battles():
         teller, player = Teller(side, pixels=False), Player(side, own_team, len(teams[foe_side - 1]))
         raw_teller, raw, buffer = TellerStruct(), PlayerStruct(), ctypes.create_string_buffer(512)
         LIB.gen1_teller_begin(ctypes.byref(raw_teller), side, 0)
-        LIB.gen1_player_begin(ctypes.byref(raw), side, ctypes.byref(own_team._struct), len(teams[foe_side - 1]))
+        LIB.gen1_player_begin(ctypes.byref(raw), side, ctypes.byref(own_team._struct), len(teams[foe_side - 1]), 0)
         while not battle.result.is_over:
             log = battle.update(*(dice.choice(battle.choices(it)) for it in (1, 2))).log
             teller.report(battle, log, player)
@@ -584,7 +584,8 @@ def known_table():
     one = "Tauros||||BodySlam,HyperBeam,Blizzard,Earthquake|||||||]Chansey||||IceBeam,Thunderbolt,SoftBoiled|||||||"
     two = "Gengar||||Hypnosis,Dig,NightShade|||||||]Snorlax||||BodySlam,Substitute,Amnesia|||||||"
     teams = [Team.from_packed(it) for it in (one, two)]
-    tellers, players = [Teller(1, pixels=False), Teller(2)], [Player(1, teams[0], 2), Player(2, teams[1])]
+    tellers = [Teller(1, pixels=False), Teller(2)]
+    players = [Player(1, teams[0], 2, hp_form=HpForm.EXACT), Player(2, teams[1])]
     return [Room(Battle(*teams, SEED)), *tellers, *players, Spectator(*teams)]
 
 
@@ -622,7 +623,7 @@ def test_bytes_are_those_of_the_c_structs():
         pairs += 1
     room = known_table()[0]
     room.forfeit(2)
-    assert pairs == 25 and fnv(found, bytes(Room.from_bytes(bytes(room)))) == 0xFFF46D281D650C53
+    assert pairs == 25 and fnv(found, bytes(Room.from_bytes(bytes(room)))) == 0x6E7819E120C59F94
 
 
 def test_bytes_that_are_refused():

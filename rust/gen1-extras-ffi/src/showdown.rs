@@ -477,8 +477,9 @@ fn on_seat(ask: Ask) -> Result<Value, Refused> {
         } => {
             let (side, members) = (side_of(side)?, members_in(&members)?);
             let team = team_of(side.number(), &members)?;
-            let mut seat = Seat::new(side, name, &members, &team, hp_of(&hp)?);
-            seat.player = gen1::Player::with_foes(side, &team, foes);
+            let hp = hp_of(&hp)?;
+            let mut seat = Seat::new(side, name, &members, &team, hp);
+            seat.player = gen1::Player::with_foes(side, &team, foes).with_hp(hp.form());
             return Ok(kept(Object::Seat(Box::new(seat))));
         }
         Ask::Receive { of, message } => {
@@ -601,12 +602,13 @@ fn followed(
     let own = follower.player()?;
     let seen = own.public(side).members.iter().filter(|it| it.species != 0);
     let seen: Vec<_> = seen.map(|it| (it.species, it.level)).collect();
+    let hp_form = own.hp_form().number();
     let words = |side, chosen: Option<Chosen>| Some(follower.words(side, chosen?));
     let choices = follower.choices().into_iter();
     let choices = choices.map(|[one, two]| [words(Side::One, one), words(Side::Two, two)]);
     let choices: Vec<_> = choices.collect();
     Ok(json!({
-        "notes": notes, "sides": of_sides, "seen": seen, "log": hex(&follower.log()), "choices": choices,
+        "notes": notes, "sides": of_sides, "seen": seen, "hp_form": hp_form, "log": hex(&follower.log()), "choices": choices,
     }))
 }
 

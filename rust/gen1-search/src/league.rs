@@ -243,7 +243,7 @@ pub fn play(
     let mut tellers = Side::BOTH.map(|side| Teller::with_hp(side, HpForm::Exact));
     let mut players = [0, 1].map(|at| {
         let foes = teams[1 - at].members().len() as u8;
-        Player::with_foes(Side::BOTH[at], teams[at], foes)
+        Player::with_foes(Side::BOTH[at], teams[at], foes).with_hp(HpForm::Exact)
     });
     let mut pair = [Choice::Pass; 2];
     loop {

@@ -87,7 +87,8 @@ impl Prior {
     /// A team that the foe of a player may have: first the members that appeared, in their order, then others.
     ///
     /// It is a team of the prior that has all that was seen, if there is one; one time in eight, and if there is none, its members are
-    /// taken from different teams. Moves that were seen and that no team has are completed by others of the species.
+    /// taken from different teams. Moves that were seen and that no team has are completed by others of the species. Where the HP that the
+    /// player was told don't allow a member's maximum, its experience for HP and its DVs are others.
     ///
     /// # Errors
     ///
@@ -107,10 +108,8 @@ impl Prior {
             let spec = of_team
                 .cloned()
                 .unwrap_or_else(|| self.member_like(seen, dice));
-            members.push(MemberSpec {
-                level: seen.level,
-                ..spec
-            });
+            let level = seen.level;
+            members.push(allowed(MemberSpec { level, ..spec }, seen, player));
         }
         if let Some(specs) = whole {
             let mut others: Vec<&MemberSpec> = specs
@@ -181,6 +180,28 @@ impl Prior {
             moves,
         }
     }
+}
+
+/// A member with a maximum that the HP allow which the player was told: as it is, with less experience for HP, or with other DVs too. As it
+/// is if there is none.
+fn allowed(spec: MemberSpec, seen: &Seen, player: &Player) -> MemberSpec {
+    let is_allowed = |spec: &MemberSpec| {
+        let team = Team::new(core::slice::from_ref(spec));
+        team.is_ok_and(|team| player.allows_max_hp(seen, team.members()[0].max_hp()))
+    };
+    if is_allowed(&spec) {
+        return spec;
+    }
+    // The DV for HP has the lowest bit of each DV, and experience counts by a quarter of its root. With DVs of 15 and of 0 for HP, each
+    // maximum of the species is there.
+    let dvs = [spec.dvs, [15; 4], [14; 4]].into_iter();
+    let mut others = dvs.flat_map(|dvs| (0..64).rev().map(move |quarter| (dvs, quarter)));
+    let other = |(dvs, quarter): ([u8; 4], u16)| {
+        let mut other = spec.clone();
+        (other.dvs, other.exp[0]) = (dvs, 16 * quarter * quarter);
+        is_allowed(&other).then_some(other)
+    };
+    others.find_map(other).unwrap_or(spec)
 }
 
 fn has(members: &[MemberSpec], species: Species) -> bool {

@@ -1,5 +1,7 @@
 //! Values that are known without the solver, and what the bot may and may not know.
-use gen1::{Battle, Choice, OutcomeOptions, Player, Side, Team, Teller, TurnLimit, member};
+use gen1::{
+    Battle, Choice, Guess, HpForm, OutcomeOptions, Player, Side, Team, Teller, TurnLimit, member,
+};
 use gen1_search::leaf::{self, MatchUps};
 use gen1_search::matrix::best_play;
 use gen1_search::{
@@ -626,5 +628,27 @@ fn guesses_have_what_was_seen() {
         assert_eq!(first.species().name(), "Alakazam");
         assert!(first.moves().iter().any(|it| it.id.name() == "Splash"));
         assert_eq!(first.moves().len(), 4);
+    }
+}
+
+/// Pikachu at level 5 was told with 13 of 48 pixels, or with 5 of 18 HP. A maximum of 18, with no experience, allows them. 23, the
+/// highest, does not.
+#[test]
+fn a_guess_allows_the_hp_that_were_told() {
+    let one = team(5, &[("Tauros", &["Body Slam"])]);
+    let mut battle = Battle::new(&one, &team(5, &[("Pikachu", &["Surf"])]), [9; 10]);
+    battle.update_silent(Choice::Pass, Choice::Pass).unwrap();
+    for (form, hp, max) in [(HpForm::Bar, 13, 48), (HpForm::Exact, 5, 18)] {
+        let mut player = Player::new(Side::One, &one).with_hp(form);
+        // A Switch to Pikachu, which is number 25, at level 5.
+        player.feed(&[2, 2, 25, 1, 5, hp, 0, max, 0, 0]).unwrap();
+        player.show(&battle.own_side(Side::One), battle.offered_mask(Side::One));
+        let (prior, mut dice) = (Prior::samples(), Dice::new(1));
+        for _ in 0..20 {
+            let guess = prior.guess(&player, &mut dice).unwrap();
+            let most = guess.members()[0].max_hp();
+            assert!(most < 23 && player.allows_max_hp(&player.foe().members[0], most));
+            Battle::from_player(&player, &Guess::new(guess, [9; 10])).unwrap();
+        }
     }
 }

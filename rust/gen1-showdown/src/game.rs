@@ -66,7 +66,8 @@ impl Game {
             let mut seat = Seat::new(side, name, members, &teams[index(side)], setup.hp);
             // Both know the sizes of the teams (`|teamsize|`).
             let foes = teams[index(side.other())].members().len() as u8;
-            seat.player = Player::with_foes(side, &teams[index(side)], foes);
+            let player = Player::with_foes(side, &teams[index(side)], foes);
+            seat.player = player.with_hp(setup.hp.form());
             seat
         });
         let lines = LineWriter::new(Heading {

@@ -54,7 +54,7 @@ impl Seat {
             name,
             order: (0..names.len()).collect(),
             members: names,
-            player: Player::new(side, team),
+            player: Player::new(side, team).with_hp(hp.form()),
             // The form of HP is that of the lines.
             teller: Teller::with_hp(side, HpForm::Exact),
             hp,

@@ -1,7 +1,7 @@
 //! Battles that fit a player's knowledge, for searches that don't cheat.
 use crate::from_state::StateFault;
 use crate::generated::guesses;
-use crate::{Battle, MoveId, Player, Rules, Team, TurnLimit};
+use crate::{Battle, MoveId, Player, Rules, Seen, Team, TurnLimit};
 use core::fmt;
 
 /// A guess of what a player can't know.
@@ -43,6 +43,8 @@ pub enum GuessFault {
     Count(u8),
     /// The member that appeared with this number, from 1, has another species or level in the guess, or is not in it.
     Member(u8),
+    /// The member that appeared with this number can't have the HP that the player was told, with the maximum HP of the guess.
+    Hp(u8),
     /// The member that appeared with this number was seen to use this move, but doesn't know it in the guess.
     Move(u8, MoveId),
     /// The resulting state is not that of a battle.
@@ -65,6 +67,10 @@ impl fmt::Display for GuessFault {
                     "member {number} of the guessed team is not the one that appeared"
                 )
             }
+            GuessFault::Hp(number) => write!(
+                f,
+                "the maximum HP of member {number} of the guessed team doesn't allow the HP that the player was told"
+            ),
             GuessFault::Move(number, id) => write!(
                 f,
                 "member {number} of the guessed team doesn't know {id}, which it was seen to use"
@@ -118,12 +124,21 @@ impl Battle {
     }
 }
 
+impl Player {
+    /// Whether the HP that the player was told of a foe's member allow a maximum. A guess with another is refused ([`GuessFault::Hp`]).
+    #[must_use]
+    pub fn allows_max_hp(&self, member: &Seen, max_hp: u16) -> bool {
+        guesses::allows_max(self.plain().hp_form, member, max_hp)
+    }
+}
+
 /// A fault with the name of its move.
 fn named(fault: guesses::GuessFault) -> GuessFault {
     match fault {
         guesses::GuessFault::NotGoingOn => GuessFault::NotGoingOn,
         guesses::GuessFault::Count(count) => GuessFault::Count(count),
         guesses::GuessFault::Member(number) => GuessFault::Member(number),
+        guesses::GuessFault::Hp(number) => GuessFault::Hp(number),
         // The log of a battle has no other numbers.
         guesses::GuessFault::Move(number, id) => MoveId::new(id)
             .map_or(GuessFault::Member(number), |id| {

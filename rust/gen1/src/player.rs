@@ -42,18 +42,31 @@ pub struct Player {
 }
 
 impl Player {
-    /// The player of a side before the first update. It knows its own team, and nothing about the foe.
+    /// The player of a side before the first update. It knows its own team, and nothing about the foe. The HP of the foe's members is
+    /// reported to it as [`Teller::new`] does, unless [`Player::with_hp`] or [`Teller::report`] changes that.
     #[must_use]
     pub fn new(side: Side, team: &Team) -> Self {
-        let inner = plain::Player::new(side, team, 0);
-        Player { inner, side }
+        Self::with_foes(side, team, 0)
     }
 
     /// Like [`Player::new`], with the number of the foe's members, 1 to 6, if the players know it. A larger number counts as 6.
     #[must_use]
     pub fn with_foes(side: Side, team: &Team, foes: u8) -> Self {
-        let inner = plain::Player::new(side, team, foes.min(6));
+        let inner = plain::Player::new(side, team, foes.min(6), HpForm::Bar);
         Player { inner, side }
+    }
+
+    /// This player, to which the HP of the foe's members is reported in the form of its teller ([`Teller::hp_form`]).
+    #[must_use]
+    pub fn with_hp(mut self, form: HpForm) -> Self {
+        self.inner.hp_form = form.number();
+        self
+    }
+
+    /// The form in which the HP of the foe's members is reported to it.
+    #[must_use]
+    pub fn hp_form(&self) -> HpForm {
+        HpForm::of_number(self.inner.hp_form)
     }
 
     /// The player that C keeps as `gen1_player` (include/gen1.h); `None` if its numbers are not those of a player.
@@ -61,7 +74,7 @@ impl Player {
     #[must_use]
     pub fn from_plain(inner: plain::Player) -> Option<Self> {
         let side = Side::from_number(inner.side)?;
-        (inner.foes <= 6).then_some(Player { inner, side })
+        (inner.foes <= 6 && inner.hp_form <= 2).then_some(Player { inner, side })
     }
 
     pub(crate) fn plain(&self) -> &plain::Player {
@@ -235,7 +248,8 @@ impl Teller {
         self.inner.tell_log(log)
     }
 
-    /// Reports the log of an update to a player, and shows it its own side and its choices in the current battle.
+    /// Reports the log of an update to a player, and shows it its own side and its choices in the current battle. The player's form of HP
+    /// becomes the teller's.
     ///
     /// # Errors
     ///
@@ -254,7 +268,7 @@ impl Teller {
         if !player.has_team(&own) {
             return Err(ReportFault::OtherTeam);
         }
-        let (mut teller, mut informed) = (*self, *player);
+        let (mut teller, mut informed) = (*self, player.with_hp(self.hp_form()));
         informed.feed(&teller.tell_log(log)?)?;
         informed.show(&own, battle.offered_mask(self.side));
         let begins_turn = battle.result().request(self.side) == Request::Move;

@@ -153,7 +153,7 @@ structs! {
         members ANY, announced ANY, stages 12, place 6, first_type 14, second_type 14, last_move 165, invulnerable 1, unused 0,
     }
     Public { one ANY, two ANY, turn 9999, outcome 5, may_hit_itself 2 }
-    PlainPlayer { public ANY, own ANY, offered 0xfff, side 2, foes 6, held_count 9, held 255, unused 0 }
+    PlainPlayer { public ANY, own ANY, offered 0xfff, side 2, foes 6, held_count 9, held 255, hp_form 2 }
     PlainTeller { side 2, pixels 2, places 6 }
     PlainMember { hp 999, status 5, reserved 0 }
     PlainSide {

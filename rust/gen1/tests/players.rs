@@ -1,8 +1,8 @@
 //! Players: battles of a player's view are accepted and offer the same, and nothing hidden reaches a player.
 use gen1::{
-    AsleepBy, Battle, Choice, Conditions, DamageSource, Event, Guess, GuessFault, LogBuf, LogFault,
-    MemberSpec, MoveId, Player, ReportFault, Side, Species, State, Team, Teller, UsedMove,
-    Volatile, Who, member,
+    AsleepBy, Battle, Choice, Conditions, DamageSource, Event, Guess, GuessFault, HpForm, LogBuf,
+    LogFault, MemberSpec, MoveId, Player, ReportFault, Side, Species, State, Team, Teller,
+    UsedMove, Volatile, Who, member,
 };
 
 /// Knuth's generator: the upper bits of its states.
@@ -25,7 +25,7 @@ impl Dice {
         let species = Species::new(1 + self.below(151) as u8).unwrap();
         let mut spec = gen1::member(species.name(), &["Struggle"]).unwrap();
         spec.moves.clear();
-        spec.level = 50 + self.below(51) as u8;
+        spec.level = 1 + self.below(100) as u8;
         while spec.moves.len() < 4 {
             let id = MoveId::new(1 + self.below(164) as u8).unwrap();
             let is_known = spec.moves.iter().any(|(known, _)| *known == id);
@@ -91,17 +91,56 @@ fn a_guess_has_as_many_members_as_the_foe() {
     }
 }
 
+/// Of Pikachu at level 5, whose base HP are 35, the maximum is 15 + 163 * 5 / 100 = 23 with DVs of 15 and all experience, and
+/// 15 + 70 * 5 / 100 = 18 with none. Of 18, 5 HP are 13 of 48 pixels (240 / 18), and 28 hundredths. Of 23, 6 HP are 12 pixels and 7 HP are
+/// 14; 6 HP are 27 hundredths, and 7 HP are 31.
+#[test]
+fn a_guess_can_have_the_hp_that_were_told() {
+    let own = Team::new(&[member("Tauros", &["Body Slam"]).unwrap()]).unwrap();
+    let mut strong = member("Pikachu", &["Surf"]).unwrap();
+    strong.level = 5;
+    let weak = MemberSpec {
+        dvs: [0; 4],
+        exp: [0; 5],
+        ..strong.clone()
+    };
+    let foes = [strong, weak].map(|it| Team::new(&[it]).unwrap());
+    assert_eq!([0, 1].map(|at| foes[at].members()[0].max_hp()), [23, 18]);
+    let mut battle = Battle::new(&own, &foes[1], [9; 10]);
+    battle.update_silent(Choice::Pass, Choice::Pass).unwrap();
+    for (form, hp, max) in [
+        (HpForm::Exact, 5, 18),
+        (HpForm::Bar, 13, 48),
+        (HpForm::Hundredths, 28, 100),
+    ] {
+        let mut player = Player::new(Side::One, &own).with_hp(form);
+        // A Switch to Pikachu, which is number 25, at level 5.
+        player.feed(&[2, 2, 25, 1, 5, hp, 0, max, 0, 0]).unwrap();
+        player.show(&battle.own_side(Side::One), battle.offered_mask(Side::One));
+        let guessed = foes
+            .each_ref()
+            .map(|team| Battle::from_player(&player, &Guess::new(team.clone(), [9; 10])));
+        assert_eq!(guessed[0].as_ref().err(), Some(&GuessFault::Hp(1)));
+        let found = guessed[1].as_ref().unwrap().state();
+        assert_eq!(found.sides[1].members[0].hp, 5);
+        let seen = &player.foe().members[0];
+        let allowed = [10, 18, 23].map(|most| player.allows_max_hp(seen, most));
+        assert_eq!(allowed, [false, true, false]);
+    }
+}
+
 #[test]
 fn a_battle_of_a_players_view_offers_the_same() {
     let mut dice = Dice(7);
     let mut seen = 0;
-    for _ in 0..150 {
+    for round in 0..150 {
+        let form = HpForm::of_number(round % 3);
         let specs: [Vec<MemberSpec>; 2] =
             std::array::from_fn(|_| (0..1 + dice.below(6)).map(|_| dice.member()).collect());
         let teams = [0, 1].map(|at| Team::new(&specs[at]).unwrap());
         let mut battle = Battle::new(&teams[0], &teams[1], dice.numbers());
-        let mut tellers = Side::BOTH.map(Teller::new);
-        let mut players = [0, 1].map(|at| Player::new(Side::BOTH[at], &teams[at]));
+        let mut tellers = Side::BOTH.map(|side| Teller::with_hp(side, form));
+        let mut players = [0, 1].map(|at| Player::new(Side::BOTH[at], &teams[at]).with_hp(form));
         let mut foes = [1, 0].map(|at| Appearance {
             specs: specs[at].clone(),
             order: Vec::new(),

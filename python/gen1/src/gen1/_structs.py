@@ -402,7 +402,7 @@ class PlayerStruct(Structure):
         ("foes", c_uint8),
         ("held_count", c_uint8),
         ("held", c_uint8 * 10),
-        ("unused", c_uint8),
+        ("hp_form", c_uint8),
     ]
 
 
@@ -511,7 +511,7 @@ _MOST: dict[str, dict[str, int]] = {
         },
     },
     "PublicStruct": {"turn": 9999, "outcome": 5, "may_hit_itself": 2},
-    "PlayerStruct": {"offered": 0xFFF, "side": 2, "foes": 6, "held_count": 9, "unused": 0},
+    "PlayerStruct": {"offered": 0xFFF, "side": 2, "foes": 6, "held_count": 9, "hp_form": 2},
     "TellerStruct": {"side": 2, "pixels": 2, "places": 6},
     "ShownMemberStruct": {"hp": 999, "status": 5, "reserved": 0},
     "ShownSideStruct": {

@@ -47,9 +47,13 @@ def _misfit(answer: int, fault: GuessFaultStruct, player: Player, team: Team) ->
     if answer == GuessFault.MOVE:
         move = Move(fault.move_number).label
         return BadArgument(f"team: member {fault.member} must know {move}, which it was seen to use")
-    if answer != GuessFault.MEMBER:
+    if answer not in (GuessFault.MEMBER, GuessFault.HP):
         return bad_state(fault.state, None)
     appeared = player.foe.members
+    if answer == GuessFault.HP:
+        told = appeared[fault.member - 1]
+        allows = f"allows {told.hp} of {told.max_hp} HP, as the player was told"
+        return BadArgument(f"team: member {fault.member} must have a maximum HP that {allows}")
     if fault.member > len(team):
         return BadArgument(f"team must have the {len(appeared)} members that have appeared, not {len(team)}")
     seen, member = appeared[fault.member - 1], team[fault.member - 1]

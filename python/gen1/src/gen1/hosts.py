@@ -239,6 +239,11 @@ class Host:
         return int(_library.host_number(byref(self._held)))
 
     @property
+    def hp_form(self) -> HpForm:
+        """The form in which HP of a foe is reported."""
+        return HpForm(self._held.tellers[0].pixels)
+
+    @property
     def is_closed(self) -> bool:
         """Whether nothing more can happen: the battle is over, a side has
         forfeited, or both sides have agreed on a draw.

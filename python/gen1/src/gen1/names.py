@@ -572,6 +572,7 @@ class GuessFault(Named):
     COUNT = 97, "the guessed team does not have as many members as the foe"
     MEMBER = 98, "a member of the guessed team is not the one that appeared"
     MOVE = 99, "a member of the guessed team does not know a move that it was seen to use"
+    HP = 100, "the maximum HP of a member of the guessed team does not allow the HP that the player was told"
 
 
 class RowKind(Named):

@@ -49,8 +49,8 @@ def start_of(
     teams = sides_of(one, two)
     battle = Battle(*teams, bytes(10), rules, limit)
     log = battle.update(Choice.PASS, Choice.PASS).log
-    players = [Player(side, teams[side - 1], len(teams[2 - side])) for side in Side]
     tellers = [Teller(side, pixels, hp_form=hp_form) for side in Side]
+    players = [Player(it.side, teams[it.side - 1], len(teams[2 - it.side]), hp_form=it.hp_form) for it in tellers]
     for teller, player in zip(tellers, players):
         teller.report(battle, log, player)
     known = np.frombuffer(b"".join(bytes(it._held) for it in players), PLAYER)

@@ -150,18 +150,21 @@ class Player:
     __slots__ = ("_held",)
     _held: PlayerStruct
 
-    def __init__(self, side: Side | int, team: TeamLike, foes: int | None = None) -> None:
+    def __init__(
+        self, side: Side | int, team: TeamLike, foes: int | None = None, *, hp_form: HpForm | None = None
+    ) -> None:
         """Creates the player of a side before the first update. It knows its
         own team, at full HP, and nothing about the foe.
 
         `foes` is how many members the foe has, 1 to 6, or None if the
-        player should not know it. Raises `BadTeam`, `BadArgument`,
+        player should not know it. `hp_form` is that of its teller or host,
+        the bar if it is not given. Raises `BadTeam`, `BadArgument`,
         `BadType`.
         """
-        known, own = a_side(side), as_team(team)
+        known, own, form = a_side(side), as_team(team), a_form(hp_form, HpForm.BAR)
         count = 0 if foes is None else within(foes, "foes", 1, 6)
         self._held = PlayerStruct()
-        answer = _library.player_begin(byref(self._held), known, byref(own._struct), count)
+        answer = _library.player_begin(byref(self._held), known, byref(own._struct), count, form)
         if answer:
             code = NewFault(answer & 0xFF)
             raise BadTeam(code.label, member=answer >> 8 & 0xFF, code=code)
@@ -237,6 +240,11 @@ class Player:
         know.
         """
         return int(self._held.foes) or None
+
+    @property
+    def hp_form(self) -> HpForm:
+        """The form in which the foe's HP is reported to it."""
+        return HpForm(self._held.hp_form)
 
     @property
     def own(self) -> OwnSide:
@@ -375,7 +383,8 @@ class Teller:
 
     def report(self, battle: Battle, log: ReadableBuffer, player: Player) -> None:
         """Reports the log of an update to a player, and shows it its own side
-        and its choices in the current battle.
+        and its choices in the current battle. The player's form of HP
+        becomes the teller's.
 
         For a room, whose battle a forfeit does not change, use `tell`,
         `Player.feed` and `Player.show` with `room.choices`. Raises
@@ -392,6 +401,7 @@ class Teller:
         teller, informed, own = self.copy(), player.copy(), battle.own_side(self.side)
         informed.show(own, battle.choices(self.side))
         informed.feed(teller.tell(log))
+        informed._held.hp_form = self.hp_form
         begins = own.request is Request.MOVE
         if informed._team != _OWN_TEAM(own._held) or begins and not player.turn < informed.turn == own.turn:
             raise BadArgument(

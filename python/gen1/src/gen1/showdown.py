@@ -42,7 +42,7 @@ from gen1.errors import BadArgument, BadTeam, BadType, Error
 from gen1._events import Event, events
 from gen1.hosts import Host
 from gen1.messages import Message, Notice, a_message
-from gen1.names import Species
+from gen1.names import HpForm, Species
 from gen1.players import Player
 from gen1.teams import Member, Team, as_team
 
@@ -603,7 +603,8 @@ class Follower:
         """
         seen = [Member(species, ["Tackle"], level=level) for species, level in self._read["seen"]]
         own = self._members.team if self._members else Team(seen)
-        made = Player(self._side, own, self.count(3 - self._side))
+        form = HpForm(self._read["hp_form"])
+        made = Player(self._side, own, self.count(3 - self._side), hp_form=form)
         made.feed(self.log)
         return made
 

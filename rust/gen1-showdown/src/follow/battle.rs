@@ -435,9 +435,6 @@ fn not_in_team(listed: &Listed) -> String {
     format!("expected a member of the team, found {name} ({species}, L{level})")
 }
 
-/// The number of parts in which the foe's HP may be reported.
-const PARTS: [u16; 2] = [48, 100];
-
 /// A battle that fits a player's knowledge and a guess of the foe's team, in any order. Its choices are those of the request.
 pub fn fitting(
     mut player: Player,
@@ -510,7 +507,7 @@ fn guessed_team(player: &Player, roster: &Roster, guess: &Members) -> Result<Tea
                 "which has been out, is not in the guess",
             ));
         };
-        check(member(&at), entry, seen)?;
+        check(player, member(&at), entry, seen)?;
         order.push(at);
     }
     let rest: Vec<usize> = (0..count).filter(|at| !order.contains(at)).collect();
@@ -520,7 +517,7 @@ fn guessed_team(player: &Player, roster: &Roster, guess: &Members) -> Result<Tea
 }
 
 /// Compares a guessed member with the log.
-fn check(member: &Member, entry: &Entry, seen: &Seen) -> Result<(), Fault> {
+fn check(player: &Player, member: &Member, entry: &Entry, seen: &Seen) -> Result<(), Fault> {
     if let Some(id) = unknown_move(member, seen) {
         return Err(contradiction(
             entry,
@@ -528,8 +525,9 @@ fn check(member: &Member, entry: &Entry, seen: &Seen) -> Result<(), Fault> {
         ));
     }
     let max = member.max_hp();
-    if seen.max != max && !PARTS.contains(&seen.max) {
-        let why = format!("has a maximum of {max} HP, but {} in the log", seen.max);
+    if !player.allows_max_hp(seen, max) {
+        let (hp, whole) = (seen.hp, seen.max);
+        let why = format!("has a maximum of {max} HP, but {hp}/{whole} in the log");
         return Err(contradiction(entry, &why));
     }
     Ok(())

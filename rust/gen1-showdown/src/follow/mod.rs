@@ -7,8 +7,8 @@ mod roster;
 
 use crate::{Fault, Members, index, names_of, player_of, team};
 use gen1::{
-    Battle, Event, EventList, LogBuf, MoveId, Place, Player, Side, Team, Volatile, member,
-    write_log,
+    Battle, Event, EventList, HpForm, LogBuf, MoveId, Place, Player, PublicSide, Side, Team,
+    Volatile, member, write_log,
 };
 use reader::Reader;
 use roster::Roster;
@@ -168,7 +168,8 @@ impl Follower {
             None => Player::new(side, &own),
         };
         player.feed(&self.log())?;
-        Ok(player)
+        let form = form_of(player.foe());
+        Ok(player.with_hp(form))
     }
 
     /// A battle that fits what the player knows, its last request, and a guess of the foe's team in any order. It draws the numbers of the
@@ -187,6 +188,14 @@ impl Follower {
             battle::shown(&self.read, &player, team, &names_of(members)).map_err(refused)?;
         battle::fitting(player, &shown, &self.read, guess, seed)
     }
+}
+
+/// The form in which a log has the foe's HP: in parts if each maximum is their number. Where that is a true maximum, the numbers are the same.
+fn form_of(foe: &PublicSide) -> HpForm {
+    let seen = foe.members.iter().filter(|it| it.species != 0);
+    let mut forms = [(48, HpForm::Bar), (100, HpForm::Hundredths)].into_iter();
+    let parts = forms.find(|(whole, _)| seen.clone().all(|it| it.max == *whole));
+    parts.map_or(HpForm::Exact, |(_, form)| form)
 }
 
 /// What an event says that a side chose.

@@ -226,6 +226,8 @@ mod fault {
         Count(u8),
         /// The member that appeared with this number, from 1, has another species or level in the guess, or is not in it.
         Member(u8),
+        /// The member that appeared with this number can't have the reported HP, with the maximum HP of the guess.
+        Hp(u8),
         /// The member that appeared with this number was seen to use the move with the second number, and doesn't know it in the guess.
         Move(u8, u8),
         /// The resulting state is not that of a battle.
@@ -527,7 +529,7 @@ mod members {
         }
     }
 
-    /// The foe's members: those that have appeared as they were told, with the moves and stats of the guess, and the others of the guess.
+    /// The foe's members: those that have appeared as they were reported, with the moves and stats of the guess, and the others of the guess.
     pub(crate) fn members_of(
         clause: bool,
         seen: &[Seen; 6],
@@ -566,9 +568,9 @@ mod members {
         }
     }
 
-    // The least HP of a member with this maximum that a player learns as this part of a whole; its maximum at most. Of hundredths, which are
-    // rounded up, it is the most.
-    fn hp_of(told: u16, whole: u16, max: u16) -> u16 {
+    /// The least HP of a member with this maximum that a player learns as this part of a whole; its maximum at most. Of hundredths, which are
+    /// rounded up, it is the most.
+    pub(crate) fn hp_of(told: u16, whole: u16, max: u16) -> u16 {
         let (told, whole, max) = (u32::from(told), u32::from(whole), u32::from(max));
         let hp = if whole == HUNDREDTHS {
             (told * max / HUNDREDTHS).max(told.min(1))
@@ -630,8 +632,9 @@ mod tests {
     //! Whether a guess fits what a player knows ([docs/MECHANICS.md, "A battle that fits"](https://hibsuloy.example/gen1/blob/main/docs/MECHANICS.md#a-battle-that-fits)).
 
     use crate::generated::guesses::fault::GuessFault;
-    use crate::generated::guesses::members::member_at;
-    use crate::generated::player::{Player, PublicSide, Seen};
+    use crate::generated::guesses::members::{hp_of, member_at};
+    use crate::generated::machine::Health;
+    use crate::generated::player::{HpForm, Player, PublicSide, Seen};
     use crate::generated::states::MemberState;
 
     // The number of Struggle, which every member may use.
@@ -646,7 +649,7 @@ mod tests {
     ) -> Result<(), GuessFault> {
         test_going(player, foe)?;
         test_count(player.foes, count)?;
-        test_members(&foe.members, fresh)?;
+        test_members(player.hp_form, &foe.members, fresh)?;
         test_use(foe.place, foe.last_move, &member_at(foe.place, fresh))
     }
 
@@ -670,32 +673,54 @@ mod tests {
         }
     }
 
-    fn test_members(seen: &[Seen; 6], fresh: &[MemberState; 6]) -> Result<(), GuessFault> {
-        test_at(0, seen, fresh, 1)?;
-        test_at(1, seen, fresh, 2)?;
-        test_at(2, seen, fresh, 3)?;
-        test_at(3, seen, fresh, 4)?;
-        test_at(4, seen, fresh, 5)?;
-        test_at(5, seen, fresh, 6)
+    fn test_members(form: u8, seen: &[Seen; 6], fresh: &[MemberState; 6]) -> Result<(), GuessFault> {
+        test_at(form, 0, seen, fresh, 1)?;
+        test_at(form, 1, seen, fresh, 2)?;
+        test_at(form, 2, seen, fresh, 3)?;
+        test_at(form, 3, seen, fresh, 4)?;
+        test_at(form, 4, seen, fresh, 5)?;
+        test_at(form, 5, seen, fresh, 6)
     }
 
     fn test_at(
+        form: u8,
         index: usize,
         seen: &[Seen; 6],
         fresh: &[MemberState; 6],
         number: u8,
     ) -> Result<(), GuessFault> {
-        test_member(number, &seen[index], &fresh[index])
+        test_member(form, number, &seen[index], &fresh[index])
     }
 
-    // A member that has appeared is the one of the guess.
-    fn test_member(number: u8, seen: &Seen, fresh: &MemberState) -> Result<(), GuessFault> {
+    // A member that has appeared is the one of the guess, which can have the reported HP.
+    fn test_member(form: u8, number: u8, seen: &Seen, fresh: &MemberState) -> Result<(), GuessFault> {
         if seen.species == 0 {
             Ok(())
         } else if seen.species == fresh.species && seen.level == fresh.level {
+            test_hp(form, number, seen, fresh)?;
             test_uses(number, seen, fresh)
         } else {
             Err(GuessFault::Member(number))
+        }
+    }
+
+    fn test_hp(form: u8, number: u8, seen: &Seen, fresh: &MemberState) -> Result<(), GuessFault> {
+        if allows_max(form, seen, fresh.max_hp) {
+            Ok(())
+        } else {
+            Err(GuessFault::Hp(number))
+        }
+    }
+
+    /// Returns whether the reported HP of a member, in the form with a number, allow a maximum: whether its HP in a battle that fits are reported
+    /// so. Where they are not, no HP of this maximum are (`forks_tell_hp`).
+    pub fn allows_max(form: u8, seen: &Seen, most: u16) -> bool {
+        match Health::new(hp_of(seen.hp, seen.max, most), most, None) {
+            Some(health) => {
+                let told = HpForm::of_number(form).tell(health);
+                told.hp() == seen.hp && told.max() == seen.max
+            }
+            None => false,
         }
     }
 
@@ -730,3 +755,4 @@ mod tests {
 pub use fault::GuessFault;
 pub use forks::from_player; pub use forks::guessed_state;
 pub use guess::Guess;
+pub use tests::allows_max;
