@@ -64,21 +64,32 @@ impl MatchUps {
     /// The sum of the match-ups of all pairs that live, over the number of the smaller side's members. A match-up is near 1 if side 1's
     /// member knocks out the other long before that knocks it out, and near -1 in the reverse case.
     fn balance(&self, one: &Seen, two: &Seen) -> f32 {
-        /// What a member without damage is taken to deal.
-        const LEAST: f32 = 0.02;
         let mut sum = 0.0;
-        for (own, first) in one.living() {
-            for (foe, second) in two.living() {
-                let [own, foe] = [
-                    self.0[0][own][foe] * first.acts,
-                    self.0[1][foe][own] * second.acts,
-                ];
-                let own = (own + LEAST * second.share) * first.share;
-                let foe = (foe + LEAST * first.share) * second.share;
-                sum += (own - foe) / (own + foe);
+        for own in one.living() {
+            for foe in two.living() {
+                sum += self.of_pair(0, own, foe);
             }
         }
         sum / one.found[0].min(two.found[0]).max(1.0)
+    }
+
+    /// The match-up of a side's member and a foe, with their indices.
+    pub(crate) fn of_pair(&self, side: usize, own: (usize, Living), foe: (usize, Living)) -> f32 {
+        /// What a member without damage is taken to deal.
+        const LEAST: f32 = 0.02;
+        let ((own, first), (foe, second)) = (own, foe);
+        let [own, foe] = [
+            self.0[side][own][foe] * first.acts,
+            self.0[1 - side][foe][own] * second.acts,
+        ];
+        let own = (own + LEAST * second.share) * first.share;
+        let foe = (foe + LEAST * first.share) * second.share;
+        (own - foe) / (own + foe)
+    }
+
+    /// The share of a foe's HP that the best move of a side's member is expected to take, at most 1.
+    pub(crate) fn hit(&self, side: usize, own: usize, (foe, living): (usize, Living)) -> f32 {
+        (self.0[side][own][foe] / living.share).min(1.0)
     }
 
     /// The share of the other's HP that the faster active member is expected to take, below 0 if it is side 2's.
@@ -86,12 +97,9 @@ impl MatchUps {
         let (Some(own), Some(foe)) = (one.out, two.out) else {
             return 0.0;
         };
-        let hit = |share: f32, by: &Seen, to: &Seen, foe: usize| {
-            (share / to.members[foe].share).min(1.0) * by.acts_next
-        };
         match one.speed.cmp(&two.speed) {
-            Ordering::Greater => hit(self.0[0][own][foe], one, two, foe),
-            Ordering::Less => -hit(self.0[1][foe][own], two, one, own),
+            Ordering::Greater => self.hit(0, own, (foe, two.members[foe])) * one.acts_next,
+            Ordering::Less => -self.hit(1, foe, (own, one.members[own])) * two.acts_next,
             Ordering::Equal => 0.0,
         }
     }
@@ -99,23 +107,31 @@ impl MatchUps {
 
 /// A member's HP as a share of its maximum, and how much of its turns it acts in.
 #[derive(Clone, Copy, Default)]
-struct Living {
-    share: f32,
-    acts: f32,
+pub(crate) struct Living {
+    pub share: f32,
+    pub acts: f32,
+}
+
+impl Living {
+    /// Whether it sleeps or is frozen.
+    pub fn is_kept(self) -> bool {
+        self.acts < 0.75
+    }
 }
 
 /// What counts of one side.
-struct Seen {
+#[derive(Clone, Copy)]
+pub(crate) struct Seen {
     found: [f32; COUNT],
-    members: [Living; 6],
+    pub members: [Living; 6],
     /// The active member, if it lives, its Speed, and how probably it acts in its next turn.
-    out: Option<usize>,
-    speed: u16,
+    pub out: Option<usize>,
+    pub speed: u16,
     acts_next: f32,
 }
 
 impl Seen {
-    fn of(bytes: &[u8]) -> Self {
+    pub fn of(bytes: &[u8]) -> Self {
         let (members, block) = bytes.split_at(ACTIVE);
         let mut seen = Seen {
             found: [0.0; COUNT],
@@ -136,6 +152,16 @@ impl Seen {
             }
         }
         seen
+    }
+
+    /// The HP of the active member as a share; 0 if it has fallen.
+    pub fn share(&self) -> f32 {
+        self.out.map_or(0.0, |at| self.members[at].share)
+    }
+
+    /// Whether the active member lives, and sleeps or is frozen.
+    pub fn is_kept(&self) -> bool {
+        self.out.is_some_and(|at| self.members[at].is_kept())
     }
 
     /// The members that live.
@@ -189,11 +215,11 @@ impl Seen {
         for (at, which) in SHOWN {
             self.found[at] = f32::from(u8::from(conditions & which.bits() != 0));
         }
-        let Living { share, acts } = self.members[at];
-        self.found[19] = share;
+        let out = self.members[at];
+        self.found[19] = out.share;
         // A member that sleeps or is frozen doesn't act, and one that wakes loses that turn.
-        let is_kept = acts < 0.75 || conditions & Conditions::RECHARGE.bits() != 0;
-        self.acts_next = if is_kept { 0.0 } else { acts };
+        let is_kept = out.is_kept() || conditions & Conditions::RECHARGE.bits() != 0;
+        self.acts_next = if is_kept { 0.0 } else { out.acts };
     }
 }
 

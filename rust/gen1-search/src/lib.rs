@@ -6,6 +6,7 @@
 //! | a choice from what one side knows | [`think`], [`ThinkOptions`], [`Thought`] |
 //! | what the foe may have | [`Prior`] |
 //! | the value at the leaf of a search | [`leaf`] |
+//! | how probable a choice is before it was tried | [`expected`] |
 //! | one game of choices made at once | [`matrix`] |
 //! | battles between bots, and their ratings | `league` |
 //!
@@ -24,7 +25,7 @@ extern crate alloc;
 #[cfg(feature = "std")]
 extern crate std;
 
-mod expected;
+pub mod expected;
 pub mod leaf;
 #[cfg(feature = "league")]
 pub mod league;

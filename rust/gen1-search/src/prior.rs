@@ -1,10 +1,11 @@
-//! What the foe may have: teams with weights, and guesses from them that fit what was seen.
+//! What a side doesn't know: the foe's team, with guesses from teams with weights that fit what was seen, and hidden counts.
 use crate::Dice;
 use alloc::vec::Vec;
 use core::fmt;
+use gen1::layout::{self, ACTIVE, MEMBER, SIDE, member};
 use gen1::{
-    ArrayVec, MemberSpec, MoveId, Player, SAMPLE_TEAMS, Seen, Species, Team, TeamRefusal,
-    sample_members,
+    ArrayVec, AsleepBy, Battle, MemberSpec, MoveId, Player, SAMPLE_TEAMS, Seen, Side, Species,
+    Team, TeamRefusal, sample_members,
 };
 
 /// How often a guess takes single members even if a whole team fits: one time in this many.
@@ -202,6 +203,36 @@ fn allowed(spec: MemberSpec, seen: &Seen, player: &Player) -> MemberSpec {
         is_allowed(&other).then_some(other)
     };
     others.find_map(other).unwrap_or(spec)
+}
+
+/// The battle with counts of sleep, confusion and Disable that are drawn, in place of the middle ones of `Battle::from_player`. A search that
+/// knew them would play for the turn in which a member wakes.
+///
+/// A move of the foe puts to sleep for 1 to 7 turns, each as probable as the others, so that each number of turns is that those slept leave.
+/// How many turns of the other counts are left is as probable as at any turn of a count whose first value is drawn as in the game.
+pub fn with_drawn_counts(battle: &Battle, player: &Player, dice: &mut Dice) -> Battle {
+    /// Where the counts are in an active block (docs/LAYOUT.md).
+    const CONFUSION: usize = 22;
+    const DISABLE: usize = 24;
+    let mut bytes = *battle.as_bytes();
+    for side in Side::BOTH {
+        let (members, block) = bytes[layout::side(side)..][..SIDE].split_at_mut(ACTIVE);
+        let seen = &player.public(side).members;
+        for (member, seen) in members.chunks_exact_mut(MEMBER).zip(seen) {
+            if seen.asleep_by() == Some(AsleepBy::Move) {
+                let most = usize::from(7 - seen.slept.min(6));
+                member[member::STATUS] = 1 + dice.below(most) as u8;
+            }
+        }
+        let mut draw = |weights: &[f64]| 1 + dice.pick(weights) as u8;
+        if block[CONFUSION] > 0 {
+            block[CONFUSION] = draw(&[4.0, 4.0, 3.0, 2.0, 1.0]);
+        }
+        if block[DISABLE] > 0 {
+            block[DISABLE] = draw(&[8.0, 7.0, 6.0, 5.0, 4.0, 3.0, 2.0, 1.0]);
+        }
+    }
+    Battle::from_bytes(&bytes).unwrap_or_else(|_| battle.clone())
 }
 
 fn has(members: &[MemberSpec], species: Species) -> bool {

@@ -1,5 +1,6 @@
 //! A search from what one side knows, with guesses of the rest.
 use crate::leaf::{self, MatchUps};
+use crate::prior::with_drawn_counts;
 use crate::tree::{Root, Sum, Tree, way_from};
 use crate::{Dice, Prior};
 use alloc::string::String;
@@ -165,7 +166,7 @@ impl Thought {
 /// The foe's team is guessed from the prior ([`Prior::guess`]), and [`Battle::from_player`] makes battles that fit. Each tree plays passes
 /// through them: both sides choose at once, each by what its own choices got, each pass draws its own numbers, and ends at a position that
 /// is new to the tree with its leaf value ([`leaf::value`]). At the root the side's sums are those of all guesses together, so its strategy
-/// does not depend on what it doesn't know. Moves that are expected to deal much damage are tried first. The strategies of the trees are
+/// does not depend on what it doesn't know. Choices that searches often make are tried first ([`expected`](crate::expected)). The strategies of the trees are
 /// averaged.
 ///
 /// ```
@@ -262,7 +263,8 @@ fn guess(
     let team = prior.guess(player, dice).map_err(ThinkFault::Team)?;
     let mut guess = Guess::new(team, dice.numbers());
     (guess.rules, guess.limit) = (options.rules, options.limit);
-    Battle::from_player(player, &guess).map_err(ThinkFault::NoGuess)
+    let battle = Battle::from_player(player, &guess).map_err(ThinkFault::NoGuess)?;
+    Ok(with_drawn_counts(&battle, player, dice))
 }
 
 /// Battles that fit what the player knows, in which it is offered the same choices.

@@ -4,13 +4,15 @@
 //! pass. Each side chooses by what its own choices got, as if the foe's choice were one of the draws: a node has numbers for each choice
 //! and not for each pair, so few passes tell the choices apart. Battles that share a node have the same members out, with the same moves,
 //! status, stages and conditions, and HP in the same eighth; which numbers were drawn on the way makes no difference otherwise.
+use crate::Dice;
+use crate::expected::Scene;
 use crate::leaf::{self, MatchUps};
-use crate::{Dice, expected};
+use crate::matrix::CHOICES;
 use alloc::vec::Vec;
 use core::num::NonZeroUsize;
 use core::ops::Range;
 use gen1::layout::{self, active, member};
-use gen1::{ArrayVec, Battle, Choice, Offered, OfferedMask, Side};
+use gen1::{ArrayVec, Battle, OfferedMask, Side};
 
 /// The most updates of one pass.
 const DEPTH: usize = 64;
@@ -144,7 +146,7 @@ impl<'a> Tree<'a> {
         let guess = self.dice.below(self.guesses.len());
         let mut battle = self.guesses[guess].clone();
         battle.reseed(self.dice.numbers());
-        let steps = self.played(&mut battle);
+        let steps = self.played(&mut battle, guess);
         let value = leaf::value(&battle, &self.match_ups[guess]);
         for (at, step) in steps.iter().enumerate().rev() {
             self.learn(*step, value as f32, at == 0);
@@ -163,8 +165,8 @@ impl<'a> Tree<'a> {
         got
     }
 
-    /// Plays a battle from the root to its end, or to a position that had no node.
-    fn played(&mut self, battle: &mut Battle) -> ArrayVec<Step, DEPTH> {
+    /// Plays a battle of a guess from the root to its end, or to a position that had no node.
+    fn played(&mut self, battle: &mut Battle, guess: usize) -> ArrayVec<Step, DEPTH> {
         let mut steps = ArrayVec::new();
         let mut way = 0;
         while !steps.is_full() {
@@ -177,7 +179,10 @@ impl<'a> Tree<'a> {
                 break;
             };
             if self.nodes[node].begin.is_none() {
-                self.begin(node, battle, [ones, twos]);
+                let scene = Scene::of(battle, &self.match_ups[guess]);
+                self.nodes[node].begin = NonZeroUsize::new(self.arms.len());
+                self.arms.extend(begun(&scene, Side::One, ones));
+                self.arms.extend(begun(&scene, Side::Two, twos));
             }
             let [one, two] = self.chosen(node, steps.is_empty());
             steps.push(Step { node, one, two });
@@ -218,22 +223,6 @@ impl<'a> Tree<'a> {
             self.grow();
         }
         None
-    }
-
-    /// Gives a node its arms.
-    fn begin(&mut self, node: usize, battle: &Battle, offered: [OfferedMask; 2]) {
-        self.nodes[node].begin = NonZeroUsize::new(self.arms.len());
-        for (offered, shares) in offered.into_iter().zip(expected::shares(battle)) {
-            let begin = self.arms.len();
-            self.arms.extend(offered.iter().map(|it| Arm {
-                expected: weight(it, &shares),
-                ..Arm::default()
-            }));
-            let sum: f32 = self.arms[begin..].iter().map(|it| it.expected).sum();
-            for arm in &mut self.arms[begin..] {
-                arm.expected /= sum;
-            }
-        }
     }
 
     fn grow(&mut self) {
@@ -323,15 +312,17 @@ pub fn way_from(node: usize, one: usize, two: usize) -> u64 {
     mixed(node as u64 + 1, (one * 16 + two) as u64)
 }
 
-/// How probable a choice is before it was tried: a move by the share of the foe's HP that it takes, and a switch seldom. Of even choices
-/// most would be switches.
-fn weight(offered: Offered, shares: &[Option<f32>; 4]) -> f32 {
-    let Choice::Move(slot) = offered.choice() else {
-        return 0.1;
-    };
-    let at = usize::from(slot.number()).checked_sub(1);
-    let share = at.and_then(|at| shares[at]);
-    share.map_or(0.4, |share| 0.2 + share)
+/// The arms of a side at a node that is met again.
+fn begun(scene: &Scene<'_>, side: Side, offered: OfferedMask) -> impl Iterator<Item = Arm> {
+    /// How much of the expectation all choices have alike.
+    const EVEN: f32 = 0.1;
+    let mut weights: ArrayVec<f32, CHOICES> = ArrayVec::new();
+    weights.extend(offered.iter().map(|it| scene.weight(side, it)));
+    let (sum, even) = (weights.iter().sum::<f32>(), EVEN / weights.len() as f32);
+    weights.into_iter().map(move |weight| Arm {
+        expected: even + (1.0 - EVEN) * weight / sum,
+        ..Arm::default()
+    })
 }
 
 /// The choice with the greatest sum of its mean value and its bound, which is the greater the more often it is expected and the less
