@@ -1503,7 +1503,7 @@ typedef struct gen1_seen {
     gen1_seen_move moves[5]; /* in the order in which they were first seen */
     uint8_t asleep_by;       /* GEN1_ASLEEP_BY_MOVE or GEN1_ASLEEP_BY_REST; 0 if it is awake, or 3 from its Rest on until it
                                 falls asleep or either side uses another move */
-    uint8_t slept;           /* how many turns it has slept, 0 to 6; it wakes in the turn after these, or after 1 by Rest */
+    uint8_t slept;           /* how many turns it has slept so far: 0 to 6, by Rest 0 or 1 */
     uint8_t unused;          /* 0 */
 } gen1_seen;
 

@@ -362,7 +362,7 @@ export interface SeenMember {
   status: Status;
   /** What put it to sleep: a move of the foe, or its own Rest. Null while it is awake. */
   asleepBy: "move" | "rest" | null;
-  /** How many turns it has slept, 0 to 6; it wakes in the turn after these, or after one of them by its own Rest. */
+  /** How many turns it has slept so far: 0 to 6, by its own Rest 0 or 1. */
   slept: number;
   /** In 48ths or hundredths if the teller hides exact HP. */
   hp: number;

@@ -58,11 +58,10 @@ class Seen:
 
     `hp` is 0 to `max_hp`, which is 48 or 100 for a foe whose HP is given as
     the bar or in hundredths. `asleep_by` is what put it to sleep, None
-    while it is awake, and `slept` how many turns it has slept, 0 to 6: it
-    wakes in the turn after these, or after one of them by its own Rest.
-    `moves` are those that it was seen to prepare or to
-    use, at most five (four and Struggle), in the order in which they were
-    first seen.
+    while it is awake, and `slept` how many turns it has slept so far: 0 to
+    6, by its own Rest 0 or 1. `moves` are those that it was seen to prepare
+    or to use, at most five (four and Struggle), in the order in which they
+    were first seen.
     """
 
     species: Species
