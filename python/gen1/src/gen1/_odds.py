@@ -94,8 +94,8 @@ class Chances:
     two uses in a row (`twice`), with independent draws.
 
     If `breaks_substitute` is true, the foe has a substitute, and the
-    chances are those of breaking it. A trapping move that hits continues: the
-    second use deals the same damage again. Nothing else that happens
+    chances are those of breaking it. A trapping move that hits continues:
+    the second use deals the same damage again. Nothing else that happens
     between the two uses is counted: no residual damage, no change of a
     stat, no recharging, and no fainting of the user.
     """
