@@ -256,7 +256,7 @@ static PUBLIC: [Row; 21] = [
             Step::Tells(Cant(TWO, CantReason::Flinched)),
             Step::Is(Fact::Slept(ONE, 1, 2)),
             Step::Is(Fact::Slept(TWO, 3, 0)),
-            // Another sleep begins again, and one in another place goes on.
+            // Another sleep begins again, and one in another place is kept.
             Step::Tells(Status(ONE, Kind::Sleep)),
             Step::Is(Fact::Slept(ONE, 1, 0)),
             Step::Repeats(9, Cant(ONE, CantReason::Asleep)),
@@ -479,10 +479,15 @@ static PUBLIC: [Row; 21] = [
 #[test]
 fn what_is_public(rt: HostRuntime) -> Result<(), Fail> {
     for row in PUBLIC {
-        let mut public = Public::new();
-        for (number, step) in row.steps.iter().enumerate() {
-            take(&rt, &mut public, *step, (row.name, number))?;
-        }
+        take_all(&rt, row.steps, row.name)?;
+    }
+    Ok(())
+}
+
+fn take_all(rt: &impl Abort, steps: &[Step], name: &str) -> Result<(), Fail> {
+    let mut public = Public::new();
+    for (number, step) in steps.iter().enumerate() {
+        take(rt, &mut public, *step, (name, number))?;
     }
     Ok(())
 }

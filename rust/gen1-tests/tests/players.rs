@@ -1379,7 +1379,7 @@ mod players {
                 Step::Tells(Cant(TWO, CantReason::Flinched)),
                 Step::Is(Fact::Slept(ONE, 1, 2)),
                 Step::Is(Fact::Slept(TWO, 3, 0)),
-                // Another sleep begins again, and one in another place goes on.
+                // Another sleep begins again, and one in another place is kept.
                 Step::Tells(Status(ONE, Kind::Sleep)),
                 Step::Is(Fact::Slept(ONE, 1, 0)),
                 Step::Repeats(9, Cant(ONE, CantReason::Asleep)),
@@ -1602,10 +1602,15 @@ mod players {
     #[test]
     fn what_is_public() -> Result<(), Fail> { let rt = gen1_tests::testing::HostRuntime;
         for row in PUBLIC {
-            let mut public = Public::new();
-            for (number, step) in row.steps.iter().enumerate() {
-                take(&rt, &mut public, *step, (row.name, number))?;
-            }
+            take_all(&rt, row.steps, row.name)?;
+        }
+        Ok(())
+    }
+
+    fn take_all(rt: &impl Abort, steps: &[Step], name: &str) -> Result<(), Fail> {
+        let mut public = Public::new();
+        for (number, step) in steps.iter().enumerate() {
+            take(rt, &mut public, *step, (name, number))?;
         }
         Ok(())
     }
