@@ -10,7 +10,7 @@ const TOXIC: u8 = 92;
 // The most that the counter of bad poison counts.
 const MOST_TIMES: u8 = 64;
 
-/// Flags of the active member: 1 from the event that announces the condition on, 0 without it. `toxic_count` is no flag.
+/// Flags of the active member: 1 from the event that announces the condition on, 0 without it. `toxic_count` is a counter.
 #[repr(C)]
 #[derive(Clone, Copy, Debug, PartialEq, Eq, Drop)]
 pub struct Announced {
