@@ -1592,14 +1592,17 @@ typedef struct gen1_player {
     gen1_public known;  /* both sides, as known from its own team and the bytes that were fed */
     gen1_own_side own;  /* its own side, as last shown; zeros before the first time */
     uint16_t offered;   /* the mask of its choices, as gen1_offered returns it; 0 before the first time */
+    uint16_t limit;     /* the last turn, 1 to 9,999 */
     uint8_t side;       /* 1 or 2 */
     uint8_t foes;       /* how many members the foe has, 1 to 6; 0 if unknown */
+    uint8_t rules;      /* GEN1_SLEEP_CLAUSE and GEN1_FREEZE_CLAUSE, added up */
+    uint8_t hp_form;    /* how the foe's HP is reported to it: GEN1_HP_EXACT, GEN1_HP_BAR or GEN1_HP_HUNDREDTHS */
     uint8_t held_count; /* 0 to 9: how many bytes of `held` are in use */
     uint8_t held[10];   /* the bytes of an incomplete event */
-    uint8_t hp_form;    /* how the foe's HP is reported to it: GEN1_HP_EXACT, GEN1_HP_BAR or GEN1_HP_HUNDREDTHS */
+    uint8_t unused;     /* 0 */
 } gen1_player;
 
-#define GEN1_PLAYER_SIZE 484 /* the size of a gen1_player, for other languages; its alignment is 4 */
+#define GEN1_PLAYER_SIZE 488 /* the size of a gen1_player, for other languages; its alignment is 4 */
 
 /*
  * How HP of the foe is reported (docs/MECHANICS.md, "What a side is told"). Where one of these is an argument, any other number is the
@@ -1618,14 +1621,22 @@ typedef struct gen1_teller {
     uint8_t places[6]; /* the places of the foe's members that have appeared, in the order in which they did; 0 after the last */
 } gen1_teller;
 
+/* What a player is given before a battle, besides its side and its team. */
+typedef struct gen1_player_terms {
+    uint16_t limit;   /* the last turn, 1 to 9,999 */
+    uint8_t rules;    /* GEN1_SLEEP_CLAUSE and GEN1_FREEZE_CLAUSE, added up */
+    uint8_t foes;     /* how many members the foe has, 1 to 6; 0 if the player should not know it */
+    uint8_t hp_form;  /* that of its teller */
+    uint8_t reserved; /* ignored */
+} gen1_player_terms;
+
 /*
- * Sets a player to what it knows before a battle: its own team, at full HP. `foes` is the number of the foe's members, or 0 if the
- * player should not know it. `hp_form` is that of its teller.
+ * Sets a player to what it knows before a battle: its own team, at full HP, and its terms.
  *
- * Returns 0; or GEN1_ERROR_SIDE, GEN1_ERROR_FOES (`foes` is above 6), or the error of the team as gen1_new returns it. Then nothing
- * has changed.
+ * Returns 0; or the first that applies of GEN1_ERROR_SIDE, GEN1_ERROR_FOES (`foes` is above 6), GEN1_ERROR_RULES,
+ * GEN1_ERROR_TURN_LIMIT, and the error of the team as gen1_new returns it. Then nothing has changed.
  */
-uint32_t gen1_player_begin(gen1_player *player, uint8_t side, const gen1_team *team, uint8_t foes, uint8_t hp_form);
+uint32_t gen1_player_begin(gen1_player *player, uint8_t side, const gen1_team *team, const gen1_player_terms *terms);
 
 /*
  * Feeds a player the next `count` of the bytes that gen1_tell wrote for its side, cut anywhere. Returns 0; or GEN1_ERROR_LOG_TAG or
@@ -1643,10 +1654,7 @@ void gen1_player_show(gen1_player *player, const gen1_own_side *own, uint16_t of
 /* A guess of what a player can't know. */
 typedef struct gen1_guess {
     gen1_team team;      /* the foe's: first the members that have appeared, in the order in which they did, then the others */
-    uint16_t limit;      /* the last turn, 1 to 9,999 */
     uint8_t numbers[10]; /* the link numbers; the first of them is drawn next */
-    uint8_t rules;       /* GEN1_SLEEP_CLAUSE and GEN1_FREEZE_CLAUSE, added up */
-    uint8_t reserved;    /* ignored */
 } gen1_guess;
 
 /* What does not fit. Fields that the code does not name are 0. */
@@ -1662,9 +1670,9 @@ typedef struct gen1_guess_fault {
  * Makes a battle that fits what a player knows, with a guess of the rest, and overwrites `*battle` with it: the base of a search that
  * doesn't cheat (docs/MECHANICS.md, "A battle that fits"). The player may have any bytes.
  *
- * Returns 0; or GEN1_ERROR_RULES, GEN1_ERROR_TURN_LIMIT or the error of the team as gen1_new returns it for one team, with GEN1_CODE_OF
- * and GEN1_PLACE_OF; or GEN1_ERROR_NOT_GOING_ON to GEN1_ERROR_GUESS_HP or GEN1_ERROR_STATE, and then `*fault` says what does not fit.
- * Otherwise `*fault` does not change. With an error `*battle` does not change.
+ * Returns 0; or the error of the team as gen1_new returns it for one team, with GEN1_CODE_OF and GEN1_PLACE_OF; or
+ * GEN1_ERROR_NOT_GOING_ON to GEN1_ERROR_GUESS_HP or GEN1_ERROR_STATE, and then `*fault` says what does not fit. Otherwise `*fault` does
+ * not change. With an error `*battle` does not change.
  */
 uint32_t gen1_battle_from_player(gen1_battle *battle, const gen1_player *player, const gen1_guess *guess, gen1_guess_fault *fault);
 

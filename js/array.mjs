@@ -5,7 +5,7 @@ import {Battle, loadError, playoutOptions} from "./battle.mjs";
 import {ArgumentError, FreedError} from "./errors.mjs";
 import {CODES} from "./header.mjs";
 import {COLUMNS, fillRow, PLAYER_SIZE, TELLER_SIZE} from "./observing.mjs";
-import {Player, Teller} from "./players.mjs";
+import {giveTerms, Player, Teller} from "./players.mjs";
 import {made} from "./update.mjs";
 
 const MOST_BATTLES = 2 ** 20;
@@ -319,7 +319,7 @@ export function arrayOf(library, terms) {
       library.bytes.set(bytes, at + place * BATTLE_SIZE);
       if (given) reseedAt(library, at, place, given);
     }
-    if (pair) putSides(library, pair, at + first, number);
+    if (pair) putSides(library, pair, battle.state, at + first, number);
   }, pair !== null);
 }
 
@@ -330,12 +330,13 @@ function reseedAt(library, first, place, seeds) {
   calls.gen1_reseed(library.size(first + place * BATTLE_SIZE), seed, 0);
 }
 
-// Writes the players and tellers of a pair for each battle.
-function putSides(library, pair, at, count) {
+// Writes the players and tellers of a pair for each battle, of which the state has the terms.
+function putSides(library, pair, state, at, count) {
   for (let place = 0; place < count; place++)
     for (const [side, {teller, player}] of pair.entries()) {
       const to = at + place * SIDES_SIZE + side * (PLAYER_SIZE + TELLER_SIZE);
       library.bytes.set(player.bytes, to);
+      giveTerms(library.bytes, to, state);
       library.bytes.set(teller.bytes, to + PLAYER_SIZE);
     }
 }

@@ -69,9 +69,9 @@ export class Battle {
   /**
    * A battle that fits a player's knowledge, with a guess of the rest: the base of a search that doesn't cheat.
    *
-   * `guess` has the foe's team, first the members that have appeared, in the order in which they did, then the others; the seed of the numbers
-   * to draw; and rules and limit as in `gen1.battle`. The player's own side is as it was shown, the foe's as the log made it public, with the
-   * moves and stats of the guess. Hidden counts have middle values (docs/MECHANICS.md, "A battle that fits").
+   * `guess` has the foe's team, first the members that have appeared, in the order in which they did, then the others; and the seed of the
+   * numbers to draw. The player's own side is as it was shown, the foe's as the log made it public, with the moves and stats of the guess.
+   * Hidden counts have middle values (docs/MECHANICS.md, "A battle that fits").
    */
   static fromPlayer(player, guess) {
     const library = libraryOf(player);

@@ -76,9 +76,6 @@ export interface Guess {
   /** The foe's team: first the members that have appeared, in the order in which they did, then the others. */
   team: Team | Members;
   seed?: Seed;
-  /** As in Terms. */
-  rules?: number;
-  limit?: number;
 }
 
 /** A member from a text, with all fields that `battle` takes. */
@@ -919,7 +916,8 @@ export class Spectator {
 }
 
 /**
- * The knowledge that one side of a battle may have: its own team, the log as it is reported to it, its own side as it is shown, and its choices.
+ * The knowledge that one side of a battle may have: its own team, the battle's rules and turn limit, the log as it is reported to it, its own side as it
+ * is shown, and its choices.
  * `gen1.player` creates it.
  */
 export class Player {
@@ -927,6 +925,9 @@ export class Player {
   readonly side: Side;
   /** The form in which the HP of the foe's members is reported to it. */
   readonly hpForm: HpForm;
+  /** The rules and the last turn of the battle, as in Terms. */
+  readonly rules: number;
+  readonly limit: number;
   /** A copy of its gen1_player (include/gen1.h). */
   readonly bytes: Uint8Array;
   /** Its knowledge, decoded each time it is read. */
@@ -964,7 +965,8 @@ export class Teller {
    */
   tell(log: Uint8Array | ArrayBuffer): Uint8Array;
   /**
-   * Reports the log of an update to a player of its side, and shows it its own side and its choices. The player's `hpForm` becomes the teller's.
+   * Reports the log of an update to a player of its side, and shows it its own side and its choices. The player's `hpForm` becomes the teller's, its
+   * `rules` and `limit` the battle's.
    * Throws LogError, and ArgumentError for a
    * player with another team and for a log that does not lead to the battle's turn, as one that was skipped or repeated.
    */
@@ -1035,9 +1037,9 @@ export class Gen1 {
   spectator(one: Team | Members, two: Team | Members): Spectator;
   /**
    * Creates a player of a side, before the first update. `foes` is the number of the foe's members, if the player may know it. `hpForm` is that of its
-   * teller or host, by default the bar. Throws TeamError.
+   * teller or host, by default the bar. `rules` and `limit` are those of the battle, as in Terms. Throws TeamError.
    */
-  player(terms: { side: Side; team: Team | Members; foes?: number; hpForm?: HpForm }): Player;
+  player(terms: { side: Side; team: Team | Members; foes?: number; hpForm?: HpForm; rules?: number; limit?: number }): Player;
   /** The player whose `bytes` these are. Throws ArgumentError for another number of bytes; no more is tested. */
   playerOfBytes(bytes: Uint8Array | ArrayBuffer): Player;
   /** The teller whose `bytes` these are. Throws as `playerOfBytes`. */

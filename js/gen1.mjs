@@ -156,7 +156,7 @@ export class Gen1 {
     return new Spectator(this.#library, spectatorOf(this.#library, one, two));
   }
 
-  /** Creates a player of a side with its team, before the first update; `foes` is the number of the foe's members, `hpForm` that of its teller. */
+  /** Creates a player of a side with its team, before the first update; `foes` is the number of the foe's members, `hpForm` that of its teller, `rules` and `limit` those of the battle. */
   player(terms) {
     return new Player(this.#library, playerOf(this.#library, terms));
   }

@@ -1,5 +1,5 @@
 // A battle that fits a player's knowledge, with a guess of the rest, for searches that don't cheat.
-import {record, seedFor, whole} from "./arguments.mjs";
+import {record, seedFor} from "./arguments.mjs";
 import {ArgumentError} from "./errors.mjs";
 import {CODES} from "./header.mjs";
 import {stateError} from "./states.mjs";
@@ -7,20 +7,13 @@ import {offsetsOf} from "./structs.mjs";
 import {MOVES} from "./tables.mjs";
 import {Team} from "./teams.mjs";
 
-const KEYS = ["team", "seed", "rules", "limit"];
+const KEYS = ["team", "seed"];
 const [GUESS, TEAM] = ["gen1_guess", "gen1_team"].map(offsetsOf);
 // Of a state that only the library has seen.
 const UNSEEN = {
   one: {active: {conditions: []}},
   two: {active: {conditions: []}}
 };
-
-// A term of the battle, in its range.
-function term(name, value, field, low, high) {
-  const number = whole(value, name);
-  if (number >= low && number <= high) return number;
-  throw stateError({field, side: 0, place: 0, index: 0, value: number, low, high}, {[name]: number});
-}
 
 const named = ({species, level}) => `${species} of level ${level}`;
 
@@ -49,13 +42,10 @@ function misfit(code, {state, count, member, moveNumber}, team, {members}) {
 
 /** A block with the battle that fits a player's knowledge and a guess. */
 export function blockOfGuess(library, player, guess) {
-  const {team, seed, rules = 0, limit = 1000} = record(guess, "guess", "an object with team and seed", KEYS);
+  const {team, seed} = record(guess, "guess", "an object with team and seed", KEYS);
   const foes = new Team(library, team, "guess.team");
   const bytes = new Uint8Array(GUESS.size);
-  const view = new DataView(bytes.buffer);
   bytes.set(seedFor(library, seed), GUESS.numbers);
-  bytes[GUESS.rules] = term("rules", rules, CODES.FIELD_RULES, 0, 3);
-  view.setUint16(GUESS.limit, term("limit", limit, CODES.FIELD_LIMIT, 1, 9999), true);
   library.begin();
   bytes.set(library.read(Team.pointer(foes, library), TEAM.size), GUESS.team);
   const [block, fault] = [library.arena.block(), library.roomOf("gen1_guess_fault")];

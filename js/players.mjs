@@ -7,21 +7,28 @@ import {CODES} from "./header.mjs";
 import {shownIn} from "./host.mjs";
 import {fieldOf, layoutOf, offsetsOf, readStruct} from "./structs.mjs";
 import {SPECIES} from "./tables.mjs";
-import {teamAt, teamError, teamGiven} from "./teams.mjs";
+import {bytesOf, teamAt, teamError, teamGiven} from "./teams.mjs";
 import {made} from "./update.mjs";
 import {viewOf} from "./views.mjs";
 
-const MOST_FOES = 6;
+const [MOST_FOES, MOST_TURNS] = [6, 9999];
+const PLAYER_KEYS = ["side", "team", "foes", "hpForm", "rules", "limit"];
 
 /** The bytes of a player before a battle. */
 export function playerOf(library, terms) {
-  const {side, team, foes = 0, hpForm} =
-      record(terms, "terms", "an object with side and team", ["side", "team", "foes", "hpForm"]);
-  const [own, given, number] = [sideOf(side), teamGiven(library, team, "team"), within(foes, "foes", 0, MOST_FOES)];
-  const form = formOf(hpForm, "bar", "hpForm");
+  const {side, team, foes = 0, hpForm, rules = 0, limit = 1000} =
+      record(terms, "terms", "an object with side and team", PLAYER_KEYS);
+  const [own, given] = [sideOf(side), teamGiven(library, team, "team")];
+  const told = {
+    foes: within(foes, "foes", 0, MOST_FOES),
+    hpForm: formOf(hpForm, "bar", "hpForm"),
+    rules: within(rules, "rules", 0, 3),
+    limit: within(limit, "limit", 1, MOST_TURNS),
+  };
   library.begin();
   const player = library.roomOf("gen1_player");
-  const answer = library.calls.gen1_player_begin(player, own, teamAt(library, given), number, form);
+  const answer = library.calls.gen1_player_begin(
+      player, own, teamAt(library, given), library.put(bytesOf("gen1_player_terms", library.isLong, told)));
   // The code names a member, but no side.
   if (answer)
     throw teamError(
@@ -42,7 +49,7 @@ export function tellerOf(library, terms) {
 /** The library of a player. */
 export let libraryOf;
 // The turn by the log; the turn of the player's own side as it was last shown, whether it begins a turn, and whether it is the log's; and a
-// player that becomes another, with a form of HP.
+// player that becomes another, with a form of HP and the terms of a battle.
 let turnsOf;
 let become;
 // The team of a player by the log, as text.
@@ -57,6 +64,12 @@ function membersAt(bytes, at, {size, species, level}) {
   for (let place = at; place < at + 6 * size && bytes[place + species]; place += size)
     found += `${found && ", "}${SPECIES[bytes[place + species] - 1]} at level ${bytes[place + level]}`;
   return found || "nobody";
+}
+
+/** Gives the player at an offset of the bytes the rules and the turn limit of a battle's state. */
+export function giveTerms(bytes, at, {rules, limit}) {
+  bytes[at + PLAYER.rules] = rules;
+  new DataView(bytes.buffer, bytes.byteOffset).setUint16(at + PLAYER.limit, limit, true);
 }
 
 /** A player: one side with what it may know, and nothing else about the battle. */
@@ -81,9 +94,10 @@ export class Player {
     };
     knownTo = (player) =>
         membersAt(player.#bytes, PLAYER.known + PUBLIC.sides + (player.side - 1) * PUBLIC_SIDE.size, SEEN);
-    become = (player, other, hpForm) => {
+    become = (player, other, hpForm, battle) => {
       player.#bytes = other.#bytes;
       player.#bytes[PLAYER.hpForm] = FORMS.indexOf(hpForm);
+      giveTerms(player.#bytes, 0, battle.state);
     };
   }
 
@@ -109,6 +123,16 @@ export class Player {
   /** The form in which the HP of the foe's members is reported to it. */
   get hpForm() {
     return FORMS[this.#field("hp_form")];
+  }
+
+  /** The rules of the battle, 0 to 3. */
+  get rules() {
+    return this.#field("rules");
+  }
+
+  /** The last turn of the battle, 1 to 9,999. */
+  get limit() {
+    return this.#field("limit");
   }
 
   /** Its knowledge, decoded when it is read. */
@@ -224,7 +248,7 @@ export class Teller {
     return library.read(told, library.sizeAt(length));
   }
 
-  /** Reports the log of an update to a player of its side, and shows it its own side and its choices as they are now. Its form of HP becomes the teller's. */
+  /** Reports the log of an update to a player of its side, and shows it its own side and its choices as they are now. Its form of HP becomes the teller's, its rules and limit the battle's. */
   report(battle, log, player) {
     if (!(battle instanceof Battle)) throw wrongType(battle, "battle", "a Battle");
     if (!(player instanceof Player)) throw wrongType(player, "player", "a Player");
@@ -241,6 +265,6 @@ export class Teller {
               before}, is at ${told} after the log, and the battle at ${shown}`,
           "log");
     this.#bytes = next.#bytes;
-    become(player, informed, this.hpForm);
+    become(player, informed, this.hpForm, battle);
   }
 }

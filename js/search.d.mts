@@ -11,10 +11,6 @@ export interface ThinkOptions {
   trees?: number;
   /** How many guesses of the foe's team each tree makes; 16 without it. */
   guesses?: number;
-  /** The rules of the battle, 0 to 3, which a player doesn't know; 0 without them. */
-  rules?: number;
-  /** The turn limit of the battle; 1,000 without it. */
-  limit?: number;
 }
 
 /** A choice, and what the search found about it. */

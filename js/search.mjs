@@ -9,7 +9,7 @@ import {instanceOf} from "./memory.mjs";
 import {layoutOf} from "./structs.mjs";
 
 const NEEDED = ["memory", "gen1_search_nodes", "gen1_search_think", "gen1_search_room", "gen1_search_free"];
-const OPTIONS = ["level", "nodes", "seed", "trees", "guesses", "rules", "limit"];
+const OPTIONS = ["level", "nodes", "seed", "trees", "guesses"];
 // The longest result has nine choices with a line each.
 const ROOM = 1 << 14;
 // The size of ThinkForm of rust/gen1-extras-ffi, whose pointers to teams are 0: the sample teams.
@@ -57,7 +57,7 @@ export class Search {
   }
 
   // The bytes of a ThinkForm.
-  #asked({level = 3, nodes, seed = 0, trees = 4, guesses = 16, rules = 0, limit = 1000}) {
+  #asked({level = 3, nodes, seed = 0, trees = 4, guesses = 16}) {
     const count = nodes === undefined ? this.levelNodes(level) : within(nodes, "nodes", 1, MOST_NODES);
     const view = new DataView(new ArrayBuffer(THINK_SIZE));
     view.setBigUint64(0, BigInt(count), true);
@@ -65,8 +65,6 @@ export class Search {
     view.setUint32(24, within(trees, "trees", 1, 1024), true);
     view.setUint32(28, within(guesses, "guesses", 1, 4096), true);
     view.setUint32(32, 1, true);
-    view.setUint16(36, within(limit, "limit", 1, 9999), true);
-    view.setUint8(38, within(rules, "rules", 0, 3));
     return new Uint8Array(view.buffer);
   }
 }

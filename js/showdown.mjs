@@ -444,8 +444,8 @@ export class Follower {
     const seen = this.#read.seen.map(([species, level]) => ({species, level, moves: ["Tackle"]}));
     const team = this.#members?.map(({nickname, ...member}) => member) ?? seen;
     const {count} = this.side(this.#side === 1 ? 2 : 1);
-    const hpForm = FORMS[this.#read.hp_form];
-    const player = gen1.player({side: this.#side, team, hpForm, ...(count === null ? {} : {foes: count})});
+    const {hp_form: form, rules, limit} = this.#read;
+    const player = gen1.player({side: this.#side, team, foes: count ?? 0, hpForm: FORMS[form], rules, limit});
     player.feed(this.log);
     return player;
   }

@@ -50,12 +50,13 @@ int main(void) {
     gen1_battle battle;
     gen1_teller teller;
     gen1_player player;
+    const gen1_player_terms terms = {.limit = GEN1_LIMIT, .hp_form = GEN1_HP_BAR};
 
     if (gen1_team_from_text(one_text, strlen(one_text), &one, &fault) != 0 ||
         gen1_team_from_text(two_text, strlen(two_text), &two, &fault) != 0 ||
         gen1_new(&battle, &one, &two, seed, 0, GEN1_LIMIT) != 0 ||
         gen1_teller_begin(&teller, GEN1_ONE, GEN1_HP_BAR) != 0 ||
-        gen1_player_begin(&player, GEN1_ONE, &one, 0, GEN1_HP_BAR) != 0)
+        gen1_player_begin(&player, GEN1_ONE, &one, &terms) != 0)
         return 1;
     if (!played(&battle, GEN1_CHOICE_PASS, GEN1_CHOICE_PASS, &teller, &player))
         return 1;

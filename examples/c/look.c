@@ -141,8 +141,9 @@ static bool play_at_host(const gen1_team *team, const uint8_t seed[10]) {
     gen1_player player;
     gen1_message message;
     gen1_notice notice;
+    const gen1_player_terms terms = {.limit = GEN1_LIMIT, .hp_form = GEN1_HP_BAR};
     if (gen1_new(&host.room.battle, team, team, seed, 0, GEN1_LIMIT) != 0 ||
-        gen1_player_begin(&player, GEN1_ONE, team, 0, GEN1_HP_BAR) != 0)
+        gen1_player_begin(&player, GEN1_ONE, team, &terms) != 0)
         return false;
     gen1_host_begin(&host, GEN1_HP_BAR, 0, 0);
     do {

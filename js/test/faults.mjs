@@ -526,13 +526,19 @@ function guesses(gen1, check) {
     for (const it of NO_OBJECTS)
       wrong(() => library.Battle.fromPlayer(player, it), /^guess is .*, not an object with team and seed$/);
     for (const it of NO_OBJECTS) wrong(() => guessed({team: it}), /^guess\.team is .*, not a list of 1 to 6 members$/);
-    outside(() => guessed({foes: []}), /^guess has the unknown key "foes"; its keys are team, seed, rules, limit$/);
+    outside(() => guessed({foes: []}), /^guess has the unknown key "foes"; its keys are team, seed$/);
     outside(() => guessed({team: [{...alakazam, species: "Alakazan"}]}),
         /^guess\.team\[0\]\.species is "Alakazan", .* did you mean "Alakazam"\?$/);
     thrown(() => guessed({team: []}), TeamError, /^the team has no member/);
     for (const seed of [[], new Uint8Array(9)]) outside(() => guessed({seed}), /^seed has \d numbers, not 10$/);
-    for (const rules of [4, ...BIG]) thrown(() => guessed({rules}), StateError, /^state\.rules is -?\d.*, not 0 to 3$/);
-    for (const limit of [0, 1, 10000]) thrown(() => guessed({limit}), StateError, /^state\.(limit|turn) is \d+, /);
+    // A player with a turn limit of 1 at turn 2, or with unknown rules.
+    const broken = (...edit) => {
+      const {bytes} = player;
+      bytes.set(...edit);
+      return gen1.playerOfBytes(bytes);
+    };
+    thrown(() => guessed({}, broken([1, 0], 470)), StateError, /^state\.(limit|turn) is \d+, /);
+    thrown(() => guessed({}, broken([4], 474)), StateError, /^state\.rules is 4, not 0 to 3$/);
   });
 }
 
@@ -632,6 +638,10 @@ function players(gen1, check) {
     }
     for (const foes of [7, ...BIG])
       outside(() => gen1.player({side: 1, team: [TAUROS], foes}), /^foes is -?\d.*, not 0 to 6$/);
+    for (const rules of [4, ...BIG])
+      outside(() => gen1.player({side: 1, team: [TAUROS], rules}), /^rules is -?\d.*, not 0 to 3$/);
+    for (const limit of [-1, 0, 10000, 65537])
+      outside(() => gen1.player({side: 1, team: [TAUROS], limit}), /^limit is -?\d.*, not 1 to 9,?999$/);
     thrown(() => gen1.player({side: 1, team: []}), TeamError, /^team: the team has no member/);
     const weak = () => gen1.player({side: 2, team: [{...TAUROS, level: 0}]});
     const {side, place} = thrown(weak, TeamError, /^team: member 1: the level is not 1 to 100: level is 0$/);

@@ -200,9 +200,10 @@ line("array: observe", () => {
 // A step with players: the update with its log, which is reported to both sides, and what each is shown.
 const sizes = ["gen1_player", "gen1_teller", "gen1_own_side"].map((name) => layoutOf(name, false).size);
 const [players, tellers] = [0, 1].map((kind) => [1, 2].map(() => room(sizes[kind])));
-const [shown, heard] = [room(sizes[2]), room(CODES.LOG_ROOM)];
+const [shown, heard, given] = [room(sizes[2]), room(CODES.LOG_ROOM), room(6)];
+bytes.set([232, 3], given);  // a turn limit of 1,000
 for (const side of [1, 2]) {
-  calls.gen1_player_begin(players[side - 1], side, teamAt, 0);
+  calls.gen1_player_begin(players[side - 1], side, teamAt, given);
   calls.gen1_teller_begin(tellers[side - 1], side, 0);
 }
 const known = bytes.slice(players[0], shown);

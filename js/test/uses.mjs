@@ -178,6 +178,8 @@ const OF_OUTCOME = {
 const OF_PLAYER = {
   side: true,
   hpForm: true,
+  rules: true,
+  limit: true,
   bytes: true,
   view: true,
   choices: true,
@@ -654,7 +656,8 @@ function battles(gen1) {
 /** @param {Gen1} gen1 */
 function statesAndPlayers(gen1) {
   const battle = gen1.battle(TERMS);
-  const [player, teller] = [gen1.player({side: 1, team: TERMS.one, foes: 2}), gen1.teller({side: 1, pixels: true})];
+  const [player, teller] =
+      [gen1.player({side: 1, team: TERMS.one, foes: 2, rules: 3, limit: 20}), gen1.teller({side: 1, pixels: true})];
   offers(player, OF_PLAYER);
   offers(teller, OF_TELLER);
   teller.report(battle, battle.update("pass", "pass").log, player);
@@ -675,7 +678,7 @@ function statesAndPlayers(gen1) {
     battle.withStatus(2, 2, "sleep", 7),
     battle.withStage(1, "evasion", -6),
   ];
-  const guess = {team: TERMS.two, seed: TERMS.seed, rules: 3, limit: 20};
+  const guess = {team: TERMS.two, seed: TERMS.seed};
   holds(Battle.fromPlayer(player, guess).choices(1).length === player.choices.length, "another guess");
   holds(changed.every((it) => it instanceof Battle) && player.clone() instanceof Player &&
           teller.clone() instanceof Teller,

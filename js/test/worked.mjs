@@ -323,8 +323,10 @@ function inWords(gen1, check) {
 // Side 1 after the first turn of a battle with Alakazam, whose Psychic it has seen. The log leaves its Tauros 5 of 353 HP, and Alakazam 32 of 313.
 function guessing(gen1, hpForm) {
   const one = [{species: "Tauros", moves: [["Body Slam", 3]]}];
-  const battle = gen1.battle({one, two: [ALAKAZAM, {species: "Chansey", moves: [["Ice Beam", 3]]}], seed: SEED});
+  const two = [ALAKAZAM, {species: "Chansey", moves: [["Ice Beam", 3]]}];
+  const battle = gen1.battle({one, two, seed: SEED, rules: 3, limit: 50});
   const [teller, player] = [gen1.teller({side: 1, hpForm}), gen1.player({side: 1, team: one})];
+  equal([player.rules, player.limit], [0, 1000]);
   for (const choice of ["pass", "move 1"]) teller.report(battle, battle.update(choice, choice).log, player);
   return player;
 }
@@ -339,7 +341,7 @@ function guesses(gen1, check) {
       {species: "Gengar", moves: [["Hypnosis", 3]]}
     ];
     const numbers = Array.from({length: 10}, (_, at) => 20 + at);
-    const copy = Battle.fromPlayer(player, {team, seed: numbers, rules: 3, limit: 50});
+    const copy = Battle.fromPlayer(player, {team, seed: numbers});
     const {state} = copy;
     equal([copy.ownSide(1), copy.choices(1)], [player.view.own, player.choices]);
     equal([state.turn, state.limit, state.rules, state.numbers, copy.choices(2)],
@@ -361,7 +363,8 @@ function guesses(gen1, check) {
     }
     thrown(() => Battle.fromPlayer(player, {team, seed: SEED}), ArgumentError,
         /^guess\.team\[0\] must have a maximum HP that allows 32 of 313 HP, as the player was told$/);
-    equal([player.hpForm, gen1.player({side: 1, team, hpForm: "hundredths"}).hpForm], ["exact", "hundredths"]);
+    const {hpForm, rules, limit} = gen1.player({side: 1, team, hpForm: "hundredths", rules: 2, limit: 9999});
+    equal([player.hpForm, player.rules, player.limit, hpForm, rules, limit], ["exact", 3, 50, "hundredths", 2, 9999]);
   });
   check("conditions that were announced", () => {
     const told = player.clone();

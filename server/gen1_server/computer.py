@@ -35,7 +35,8 @@ class Computer(Watcher):
             self._players.pop(view.room, None)
             return
         team, foes = Team.from_dicts(json.loads(view.team)), view.sizes[2 - view.side]
-        player = Player(view.side, team, foes, hp_form=view.hp_form)
+        rules = FORMATS[view.format].rules
+        player = Player(view.side, team, foes, hp_form=view.hp_form, rules=rules, limit=LIMIT)
         for log in view.logs[:-1]:
             player.feed(log)
         self._players[view.room] = player
@@ -57,12 +58,12 @@ class Computer(Watcher):
         player = self._players[view.room]
         player.receive(view.sent)
         if view.awaited:
-            self._rooms.later(self._choose(view.room, view.format, view.number, player.copy()))
+            self._rooms.later(self._choose(view.room, view.number, player.copy()))
 
-    async def _choose(self, room: int, format: str, number: int, player: Player) -> None:
+    async def _choose(self, room: int, number: int, player: Player) -> None:
         try:
             async with self._turn:
-                work = partial(think, player, level=self._level, rules=FORMATS[format].rules, limit=LIMIT)
+                work = partial(think, player, level=self._level)
                 found = (await asyncio.to_thread(work, seed=secrets.randbits(63))).choices
             # As often as the search says, since a side that always makes its best choice can be foreseen.
             choice = secrets.SystemRandom().choices(found, [it.probability for it in found])[0].choice

@@ -12,24 +12,34 @@ static uint8_t some_side(void) { return one_in(4) ? any_byte() : (uint8_t)(1 + d
 
 /* ---- players ---- */
 
+static gen1_player_terms some_terms(void) {
+    return (gen1_player_terms){
+        .limit = (uint16_t)(1 + draw(9999)), (uint8_t)draw(4), (uint8_t)draw(7), (uint8_t)draw(3), 0};
+}
+
 static void try_player_begin(void) {
     gen1_team of = lawful_team(), other = lawful_team();
     for (uint32_t times = draw(3); times > 0; times--)
         spoil(&of);
-    uint8_t side = some_side(), foes = one_in(4) ? any_byte() : (uint8_t)draw(7), form = (uint8_t)draw(4);
-    uint32_t want = !is_side(side) ? GEN1_ERROR_SIDE
-                    : foes > 6     ? GEN1_ERROR_FOES
-                                   : fault_of_new(&of, &other, 0, GEN1_LIMIT) & 0xffff;
+    uint8_t side = some_side();
+    gen1_player_terms asked = some_terms();
+    for (uint32_t changes = draw(3); changes > 0; changes--)
+        ((uint8_t *)&asked)[draw(sizeof asked)] = any_byte();
+    uint32_t want = !is_side(side)   ? GEN1_ERROR_SIDE
+                    : asked.foes > 6 ? GEN1_ERROR_FOES
+                                     : fault_of_new(&of, &other, asked.rules, asked.limit) & 0xffff;
     gen1_player *player = block(0, sizeof *player);
     const gen1_team *team = block_of(1, &of, sizeof of);
+    const gen1_player_terms *terms = block_of(2, &asked, sizeof asked);
     note();
-    uint32_t got = gen1_player_begin(player, side, team, foes, form);
-    bool is_right = got != 0
-                        ? unchanged()
-                        : changed_only(0, sizeof *player) && player->side == side && player->foes == foes &&
-                              player->held_count == 0 && player->offered == 0 && player->hp_form == form_of(form) &&
-                              player->known.sides[side - 1].members[0].species == of.members[0].species &&
-                              player->known.sides[2 - side].members[0].species == 0;
+    uint32_t got = gen1_player_begin(player, side, team, terms);
+    bool is_right = got != 0 ? unchanged()
+                             : changed_only(0, sizeof *player) && player->side == side && player->foes == asked.foes &&
+                                   player->rules == asked.rules && player->limit == asked.limit &&
+                                   player->unused == 0 && player->held_count == 0 && player->offered == 0 &&
+                                   player->hp_form == form_of(asked.hp_form) &&
+                                   player->known.sides[side - 1].members[0].species == of.members[0].species &&
+                                   player->known.sides[2 - side].members[0].species == 0;
     tell("gen1_player_begin", got == want && is_right, (long)got, (long)want);
 }
 
@@ -38,7 +48,8 @@ static gen1_player some_player(bool *is_valid) {
     gen1_player player;
     gen1_team team = lawful_team();
     memset(&player, 0, sizeof player);
-    gen1_player_begin(&player, (uint8_t)(1 + draw(2)), &team, (uint8_t)draw(7), (uint8_t)draw(3));
+    gen1_player_terms terms = some_terms();
+    gen1_player_begin(&player, (uint8_t)(1 + draw(2)), &team, &terms);
     *is_valid = !one_in(4);
     for (uint32_t changes = *is_valid ? 0 : 1 + draw(60); changes > 0; changes--)
         ((uint8_t *)&player)[draw(sizeof player)] = any_byte();
@@ -181,7 +192,7 @@ static void player_of(const gen1_battle *of, uint8_t side, gen1_player *player, 
     known->place = foe->active.place, known->last_move = last_move_of(foe);
     player->known.sides[side - 1].last_move = last_move_of(&state.sides[side - 1]);
     player->known.outcome = state.outcome;
-    guess->limit = 9999, guess->rules = state.rules;
+    player->limit = 9999, player->rules = state.rules;
 }
 
 /* The battle shows the player its own side as it was shown. Where bytes were changed it is refused, or a battle that gen1_load takes. A
@@ -213,7 +224,7 @@ static void try_battle_from_player(void) {
         got == 0   ? changed_only(0, sizeof *battle) && gen1_load(&loaded, battle->bytes, sizeof battle->bytes) == 0
         : is_fault ? (!is_lawful || got == GEN1_ERROR_NOT_GOING_ON || is_told_otherwise) &&
                          changed_only(3, sizeof *fault) && fault->unused == 0
-                   : !is_lawful && GEN1_CODE_OF(got) <= GEN1_ERROR_TURN_LIMIT && unchanged();
+                   : !is_lawful && GEN1_CODE_OF(got) < GEN1_ERROR_RULES && unchanged();
     if (is_lawful) {
         gen1_own_side own;
         gen1_get_own_side(got == 0 ? battle : &of, side, &own);

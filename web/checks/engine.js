@@ -246,7 +246,7 @@ check("guesses fit what a player knows", () => {
         // The worker's player is made from what it is sent.
         const player = playerOf(engine, match.sight(side));
         equal([player.view, player.choices], [view, match.last.players[side - 1].choices]);
-        const battle = guessed(engine, player, draw, {seed: SEED, rules: 0, limit: 1000});
+        const battle = guessed(engine, player, draw, SEED);
         const own = battle.ownSide(side);
         equal([own.members, own.active.place, own.active.stages, own.active.types, own.turn, own.request], [
           view.own.members, view.own.active.place, view.own.active.stages, view.own.active.types, view.own.turn,

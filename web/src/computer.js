@@ -9,7 +9,7 @@ import {guessed, playerOf} from "./guesses.js";
  * @typedef {import("./engine.js").Engine} Engine
  * @typedef {import("gen1/search").Search} Search
  * @typedef {import("gen1/search").Thought} Thought
- * @typedef {{ side: 1 | 2, player: string, seed: number, offered: number[], rules: number, limit: number, sight: import("./guesses.js").Sight | null,
+ * @typedef {{ side: 1 | 2, player: string, seed: number, offered: number[], sight: import("./guesses.js").Sight | null,
  *   battle: Uint8Array | null }} Asked a question: the player ("random", "greedy", "playouts", "level1" to "level5", or "cheating"), the bytes of the offered choices, and
  *   the computer's knowledge: that of its side, or for cheating the battle itself
  */
@@ -98,12 +98,10 @@ export function scores(battle, side, rounds, seed) {
  * @param {Random} random
  * @param {number} count
  */
-function guesses(engine, {sight, rules, limit}, random, count) {
+function guesses(engine, {sight}, random, count) {
   if (!sight) throw new Error("nothing is known of the battle");
   const player = playerOf(engine, sight);
-  const {marks} = sight;
-  return Array.from({length: count},
-      () => guessed(engine, player, (bound) => random.below(bound), {seed: random.seed(), rules, limit, marks}));
+  return Array.from({length: count}, () => guessed(engine, player, (bound) => random.below(bound), random.seed()));
 }
 
 /** @param {Engine} engine @param {Asked} asked @param {Random} random @param {ChoiceName[]} choices */
@@ -146,10 +144,10 @@ export function levelOf(player) {
  * A search from the knowledge of a side.
  * @param {Engine} engine @param {Search} search @param {Asked} asked
  */
-export function think(engine, search, {sight, player, seed, rules, limit}) {
+export function think(engine, search, {sight, player, seed}) {
   if (!sight) throw new Error("nothing is known of the battle");
   const level = /** @type {1 | 2 | 3 | 4 | 5} */ (levelOf(player));
-  return search.think(playerOf(engine, sight), {level, seed, rules, limit});
+  return search.think(playerOf(engine, sight), {level, seed});
 }
 
 /**

@@ -8,14 +8,10 @@ import {usualMoves} from "./sets.js";
  * @typedef {import("./engine.js").Member} Member
  * @typedef {import("gen1").Player} Player
  * @typedef {(bound: number) => number} Draw a random whole number from 0, below a bound
- * @typedef {{ seed: number[], rules: number, limit: number, marks: number[] }} Frame the parts of a battle other than its sides, and the places of
- *   the foe's members whose sleep the sleep clause counts
- * @typedef {{ side: 1 | 2, team: Member[], foes: number, messages: Uint8Array[], marks: number[] }} Sight a side's knowledge: its team, how many
- *   members the foe has, the messages that the host sent it, and its marks as in Frame
+ * @typedef {{ side: 1 | 2, team: Member[], foes: number, rules: number, limit: number, messages: Uint8Array[] }} Sight a side's knowledge: its team,
+ *   how many members the foe has, the terms of the battle, and the messages that the host sent it
  */
 
-/** The bit of the sleep clause in the rules of a battle. */
-const SLEEP_CLAUSE = 1;
 const MAX = {
   dvs: [15, 15, 15, 15],
   exp: Array(5).fill(65535)
@@ -51,13 +47,13 @@ function guessedTeam({gen1, tables}, view, draw) {
  * HP until it is not, and then the same with a DV of 0 for HP.
  * @param {Player} player
  * @param {Member[]} team
- * @param {{ seed: number[], rules: number, limit: number }} terms
+ * @param {number[]} seed
  * @returns {Battle}
  */
-function fitting(player, team, terms) {
+function fitting(player, team, seed) {
   for (let left = 128 * team.length;; left--) {
     try {
-      return Battle.fromPlayer(player, {...terms, team: /** @type {any} */ (team)});
+      return Battle.fromPlayer(player, {team: /** @type {any} */ (team), seed});
     } catch (error) {
       const refused = error instanceof ArgumentError && /^guess\.team\[(\d)\]$/.exec(error.argument);
       if (!refused || !left) throw error;
@@ -77,15 +73,10 @@ function fitting(player, team, terms) {
  * @param {Engine} engine
  * @param {Player} player
  * @param {Draw} draw draws the unknown values
- * @param {Frame} frame
+ * @param {number[]} seed the numbers that the battle draws
  */
-export function guessed(engine, player, draw, {seed, rules, limit, marks}) {
-  const battle = fitting(player, guessedTeam(engine, player.view, draw), {seed, rules, limit});
-  if (!(rules & SLEEP_CLAUSE) || !marks.length) return battle;
-  return battle.withState((state) => {
-    const {members} = player.side === 1 ? state.two : state.one;
-    for (const place of marks) members[place - 1].marked = members[place - 1].status === "sleep";
-  });
+export function guessed(engine, player, draw, seed) {
+  return fitting(player, guessedTeam(engine, player.view, draw), seed);
 }
 
 /**
@@ -93,8 +84,8 @@ export function guessed(engine, player, draw, {seed, rules, limit, marks}) {
  * @param {Engine} engine
  * @param {Sight} sight
  */
-export function playerOf({gen1}, {side, team, foes, messages}) {
-  const player = gen1.player({side, team: /** @type {any} */ (team), foes});
+export function playerOf({gen1}, {side, team, foes, rules, limit, messages}) {
+  const player = gen1.player({side, team: /** @type {any} */ (team), foes, rules, limit});
   for (const message of messages) player.receive(gen1.messageOfBytes(message));
   return player;
 }

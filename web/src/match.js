@@ -11,9 +11,8 @@ import {sideOf} from "./words.js";
  * @typedef {import("./engine.js").GameEvent} GameEvent
  * @typedef {1 | 2} Side
  * @typedef {Side | 0 | "all"} Viewer a side, what both sides know, or everything
- * @typedef {{ told: Uint8Array[], players: import("gen1").Player[], marks: number[][], views: import("gen1").PlayerView[],
- *   usual: import("gen1").Battle[] }} Known the knowledge after a pair of choices; each list has an item for each side, and the last two are filled on
- *   demand. Marks are the places of the foe's members that the side has put to sleep.
+ * @typedef {{ told: Uint8Array[], players: import("gen1").Player[], views: import("gen1").PlayerView[], usual: import("gen1").Battle[] }} Known the
+ *   knowledge after a pair of choices; each list has an item for each side, and the last two are filled on demand
  * @typedef {Known & { pair: number[], host: import("gen1").Host, messages: import("gen1").Message[], log?: Uint8Array }} Step the table after a
  *   pair, what it sent the sides, and on demand the whole log
  */
@@ -129,29 +128,9 @@ export class Match {
    * @param {Side} side
    */
   usual(side, step = this.last) {
-    const {rules, limit} = this.terms;
     let drawn = 0;
     const draw = (/** @type {number} */ bound) => drawn++ % bound;
-    const frame = {seed: Array(10).fill(0), rules, limit, marks: step.marks[side - 1]};
-    return (step.usual[side - 1] ??= guessed(this.engine, step.players[side - 1], draw, frame));
-  }
-
-  /**
-   * A side's marks after the events of another update, as they are reported to it. A sleep that begins after the foe's own move is that of Rest.
-   * @param {Side} side @param {Uint8Array} told @param {S} [before] the step before it
-   */
-  marksAfter(side, told, before = this.last) {
-    let [foe, places] = before ? [this.view(side, before).foe.active?.place ?? 0, before.marks[side - 1]] : [0, []];
-    let mover = 0;
-    for (const event of this.engine.events(told)) {
-      if (event.kind === "move") mover = event.side;
-      if (sideOf(event) !== 3 - side) continue;
-      if (event.kind === "switch") foe = event.place;
-      if (event.kind === "status" && event.status === "sleep" && mover === side) places = [...places, foe];
-      if (event.kind === "faint" || (event.kind === "cure" && event.status === "sleep"))
-        places = places.filter((it) => it !== foe);
-    }
-    return places;
+    return (step.usual[side - 1] ??= guessed(this.engine, step.players[side - 1], draw, Array(10).fill(0)));
   }
 
   /**
@@ -220,12 +199,13 @@ export class LocalMatch extends Match {
   /** @param {import("./engine.js").Engine} engine @param {import("./engine.js").Terms} terms @param {string[]} who plays the sides */
   constructor(engine, terms, who) {
     super(engine, terms, who);
-    const [one, two] = [terms.one, terms.two];
+    const {one, two, rules, limit} = terms;
     /** The table with the choices for the current pair. */
     this.host = engine.gen1.host(engine.begin(terms), {mayCancel: true});
-    this.add([0, 0],
-        SIDES.map(
-            (side) => engine.gen1.player({side, team: side === 1 ? one : two, foes: (side === 1 ? two : one).length})));
+    this.add([0, 0], SIDES.map((side) => {
+      const [team, {length: foes}] = side === 1 ? [one, two] : [two, one];
+      return engine.gen1.player({side, team, foes, rules, limit});
+    }));
   }
 
   /**
@@ -236,8 +216,7 @@ export class LocalMatch extends Match {
     const messages = SIDES.map((side) => this.host.message(side));
     messages.forEach((message, at) => players[at].receive(message));
     const told = messages.map(({log}) => log);
-    const marks = SIDES.map((side) => this.marksAfter(side, told[side - 1]));
-    this.steps.push({pair, host: this.host.clone(), messages, told, players, marks, views: [], usual: []});
+    this.steps.push({pair, host: this.host.clone(), messages, told, players, views: [], usual: []});
     this.clear();
   }
 
@@ -317,8 +296,6 @@ export class LocalMatch extends Match {
       player,
       seed,
       offered: this.offered(side),
-      rules: this.terms.rules,
-      limit: this.terms.limit,
       sight: isCheating ? null : this.sight(side),
       battle: isCheating ? this.battle().bytes : null,
     };
@@ -330,10 +307,10 @@ export class LocalMatch extends Match {
    * @returns {import("./guesses.js").Sight}
    */
   sight(side) {
-    const [team, others] = side === 1 ? [this.terms.one, this.terms.two] : [this.terms.two, this.terms.one];
-    const {marks} = this.last;
+    const {one, two, rules, limit} = this.terms;
+    const [team, {length: foes}] = side === 1 ? [one, two] : [two, one];
     const messages = this.steps.map((step) => step.messages[side - 1].bytes);
-    return {side, team, foes: others.length, messages, marks: marks[side - 1]};
+    return {side, team, foes, rules, limit, messages};
   }
 
   /** @param {Viewer} viewer @param {Step} step */

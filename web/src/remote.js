@@ -46,10 +46,10 @@ export class RemoteMatch extends Match {
     this.format = room.format;
     this.rated = room.rated;
     this.ahead = rules.ahead;
-    const [known, hpForm] = [/** @type {any} */ (team), room.hp_form];
+    const known = {team: /** @type {any} */ (team), hpForm: room.hp_form, rules: rules.rules, limit: rules.limit};
     this.players = (room.side ?
             [room.side] :
-            SIDES).map((side) => engine.gen1.player({side, team: known, foes: room.sizes[2 - side], hpForm}));
+            SIDES).map((side) => engine.gen1.player({...known, side, foes: room.sizes[2 - side]}));
     /** The number of the current pair. */
     this.number = 0;
     /** Whether the side's choice is missing. */
@@ -69,11 +69,10 @@ export class RemoteMatch extends Match {
    * @param {Uint8Array} log @param {(player: import("gen1").Player) => void} tell
    */
   add(log, tell) {
-    const marks = SIDES.map((side) => (side === this.side ? this.marksAfter(side, log) : []));
     this.players = this.players.map((it) => it.clone());
     this.players.forEach(tell);
     const [one, two = one] = this.players;
-    this.steps.push({told: [log, log], players: [one, two], marks, views: [], usual: []});
+    this.steps.push({told: [log, log], players: [one, two], views: [], usual: []});
   }
 
   /**

@@ -27,10 +27,8 @@ pub mod Replies
 -- The odds of a move.
 pub mod OddsDue
 -- The bytes of an event.
-pub mod EventBytes
 -- Choices that are written to the beginning of a caller's bytes.
 pub mod WrittenChoices
 -- The words of an offered choice are read as this choice.
-pub mod OwnWords
 -- The calls of a battle, one after the other.
 pub mod TheTheorem

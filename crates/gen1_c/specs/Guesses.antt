@@ -1,22 +1,17 @@
 -- The guess of what a player can't know, and what does not fit, as plain structs (include/gen1.h, "players").
-use Rattle.std.specs.Prelude.{if◌then◌else◌, nat_le, ℕ, ◌&&◌}
+use Rattle.std.specs.Prelude.{ℕ}
 use Rattle.gen1_stats.specs.Teams.{team_of}
-use Rattle.gen1_machine.specs.Rules.{rules_of}
 use Rattle.gen1_guesses.specs.declared.fault.GuessFault.{GuessFault}
 use Rattle.gen1_guesses.specs.declared.fault.GuessFault.TheVariants as faults
 use Rattle.gen1_guesses.specs.declared.guess.Guess.{Guess}
-use Rattle.gen1_c.specs.Teams.{sheets_of, team_fault}
+use Rattle.gen1_c.specs.Teams.{sheets_of}
 use Rattle.gen1_c.specs.View.{fault_form}
 use Rattle.gen1_c.specs.declared.guesses.GuessFaultForm.{GuessFaultForm}
 use Rattle.gen1_c.specs.declared.guesses.GuessForm.{GuessForm}
 use Rattle.gen1_c.specs.declared.view.StateFaultForm.{StateFaultForm}
 
 abbrev pub guess_of : GuessForm → Guess
-guess_of f = record { team = team_of (sheets_of f.team); numbers = f.numbers; rules = rules_of f.rules; limit = f.limit }
-
--- The first error of: the rules, the limit, the team.
-abbrev pub guess_fault : GuessForm → ℕ
-guess_fault f = if nat_le f.rules 3 then (if nat_le 1 f.limit && nat_le f.limit 9999 then team_fault f.team else 13) else 12
+guess_of f = record { team = team_of (sheets_of f.team); numbers = f.numbers }
 
 -- What does not fit.
 abbrev pub code_of : GuessFault → ℕ

@@ -1,5 +1,5 @@
 -- A list of the battles that an update can lead to (include/gen1.h, "exact outcomes").
-use Rattle.std.specs.Prelude.{List, Some, false, length, ℕ, ◌*◌, ◌+◌, ◌<◌, ◌≡◌, ◌≤◌, ◌⊎◌}
+use Rattle.std.specs.Prelude.{List, Some, length, ℕ, ◌*◌, ◌+◌, ◌<◌, ◌≡◌, ◌≤◌, ◌⊎◌}
 use Rattle.gen1_machine.specs.declared.choice.Choice.{Choice}
 use Rattle.gen1_machine.specs.State.{State}
 use Rattle.gen1_machine.specs.Step.{Accepted, Answer, Refused}
@@ -7,7 +7,6 @@ use Rattle.gen1_engine.specs.Replay.{choices_at, step_by_bytes}
 use Rattle.gen1_engine.specs.Update.{refusal_of}
 use Rattle.gen1_outcomes.specs.declared.options.OutcomeOptions.{OutcomeOptions}
 use Rattle.gen1_outcomes.specs.declared.successor.Successor.{Successor}
-use Rattle.gen1_outcomes.specs.Beginning.{have_two_actions}
 use Rattle.gen1_outcomes.specs.Complete.{IsExact, ListsEvery}
 use Rattle.gen1_outcomes.specs.Listing.{EachFollows, sum_of}
 use Rattle.gen1_outcomes.specs.Shares.{weight_at}
@@ -46,13 +45,13 @@ abbrev pub AreProbable : ℕ → List Successor → OutcomeList → Type 0
 AreProbable least successors list =
     (k : ℕ) → (past : Successor) → k < list.count → least * whole_of list ≤ weight_at successors k past * 4294967296
 
--- each battle in the first places can follow from the pair, by a way that is noted by the options, and the weights and what is left out sum to the whole; in an update in one
--- stage, if nothing is left out and each damage is told apart, there is one for every stream
+-- each battle in the first places can follow from the pair, by a way that is noted by the options, and the weights and what is left out sum to the whole; if nothing is left
+-- out and no two damages share a class, there is one for every stream
 pub record AreListed (s : State) (one two : Choice) (options : OutcomeOptions) (successors : List Successor) (list : OutcomeList) : Type 0 where
   pub within : list.count ≤ length successors
   pub follow : EachFollows s one two options list.count successors
   pub sum : sum_of list.count successors + left_out_of list ≡ whole_of list
-  pub every : have_two_actions one two s.field ≡ false → IsExact options → ListsEvery s one two list.count successors
+  pub every : IsExact options → ListsEvery s one two list.count successors
 
 -- for a refused pair its code, and nothing has changed; for any other a list, if the code is 0
 abbrev pub ListsAs : Answer → State → ℕ × ℕ → OutcomeOptions → Arrays → Arrays → OutcomeList → ℕ → Type 0

@@ -1,21 +1,31 @@
 -- The codes of players, and what they are told (include/gen1.h, "players").
 use Rattle.std.specs.Prelude.{List, if◌then◌else◌, length, nat_le, replicate, ℕ, ◌&&◌, ◌+◌, ◌<◌, ◌==◌, ◌≡◌, ◌≢◌, ◌≤◌}
+use Rattle.gen1_machine.specs.Rules.{rules_of}
 use Rattle.gen1_machine.specs.declared.event.Event.{Event}
 use Rattle.gen1_events.specs.declared.fault.LogFault.{LogFault}
 use Rattle.gen1_events.specs.Faults.{number_of}
 use Rattle.gen1_events.specs.Reader.{Breaks}
 use Rattle.gen1_events.specs.Splits.{IsReading, Splits}
+use Rattle.gen1_player.specs.declared.player.PlayerTerms.{PlayerTerms}
 use Rattle.gen1_player.specs.declared.teller.Teller.{Teller}
 use Rattle.gen1_player.specs.Retelling.{HasFault}
 use Rattle.gen1_player.specs.Telling.{form_number, form_of, meets_all, told_all}
 use Rattle.gen1_c.specs.Fronts.{over_front}
+use Rattle.gen1_c.specs.declared.players.PlayerTermsForm.{PlayerTermsForm}
 
 abbrev pub side_code : ℕ → ℕ
 side_code side = if nat_le 1 side && nat_le side 2 then 0 else 40
 
--- the first error of: the side, the number of foes, the team
-abbrev pub begin_code : ℕ → ℕ → ℕ → ℕ
-begin_code side foes team = if nat_le 1 side && nat_le side 2 then (if nat_le foes 6 then team else 14) else 40
+abbrev pub terms_of : PlayerTermsForm → PlayerTerms
+terms_of f = record { rules = rules_of f.rules; limit = f.limit; foes = f.foes; hp_form = form_of f.hp_form }
+
+-- the first error of: the number of foes, the rules, the limit
+abbrev pub terms_code : PlayerTermsForm → ℕ
+terms_code f = if nat_le f.foes 6 then (if nat_le f.rules 3 then (if nat_le 1 f.limit && nat_le f.limit 9999 then 0 else 13) else 12) else 14
+
+-- the first error of: the side, the terms, the team
+abbrev pub begin_code : ℕ → PlayerTermsForm → ℕ → ℕ
+begin_code side terms team = if nat_le 1 side && nat_le side 2 then (if terms_code terms == 0 then team else terms_code terms) else 40
 
 abbrev pub log_code : LogFault → ℕ
 log_code fault = 31 + number_of fault

@@ -7,14 +7,14 @@ ghost use Rattle.gen1_guesses.specs.declared.fault.GuessFault.TheVariants as fau
 ghost use Rattle.gen1_states.specs.Bytes.{bytes_of};
 ghost use Rattle.gen1_states.specs.Completed.{completed};
 ghost use Rattle.gen1_states.specs.WholeTests.{fault_of};
-ghost use Rattle.gen1_c.specs.Guesses.{code_of, guess_fault, guess_form, guess_of, fault_form_of, no_state_fault};
+ghost use Rattle.gen1_c.specs.Guesses.{code_of, guess_form, guess_of, fault_form_of, no_state_fault};
+ghost use Rattle.gen1_c.specs.Teams.{team_fault};
 
-use crate::codes::{RULES, STATE, TURN_LIMIT};
+use crate::codes::STATE;
 use crate::teams::{TeamForm, team_of};
 use crate::view::{StateFaultForm, fault_form};
 use gen1_guesses::{Guess, GuessFault, from_player};
 use gen1_layout::Packed;
-use gen1_machine::{Rules, TurnLimit};
 use gen1_player::Player;
 
 // The codes of include/gen1.h, "errors".
@@ -34,14 +34,8 @@ const GUESS_HP: u32 = 100;
 pub struct GuessForm {
     /// The foe's team: first the members that have appeared, in the order in which they did, then the others.
     pub team: TeamForm,
-    /// 1 to 9,999.
-    pub limit: u16,
     /// The ten link numbers; the first of them is drawn next.
     pub numbers: [u8; 10],
-    /// 0 to 3.
-    pub rules: u8,
-    /// Ignored.
-    pub reserved: u8,
 }
 
 /// What does not fit.
@@ -61,8 +55,8 @@ pub struct GuessFaultForm {
 }
 
 /// Makes a battle that fits what a player knows, with a guess of the rest, of any bytes of the player. Returns 0, or an error of the
-/// rules, the limit or the team of the guess as `gen1_new` returns it, or the code of what does not fit, which `fault` then has. With
-/// an error the battle has not changed.
+/// team of the guess as `gen1_new` returns it, or the code of what does not fit, which `fault` then has. With an error the battle has
+/// not changed.
 #[unsafe(no_mangle)]
 pub extern "C" fn gen1_battle_from_player(
     battle: &mut Packed,
@@ -70,14 +64,14 @@ pub extern "C" fn gen1_battle_from_player(
     guess: &GuessForm,
     fault: &mut GuessFaultForm,
 ) -> u32
-    ensures refused { guess_fault guess.now ≢ 0 → (result ≡ guess_fault guess.now) × (fault.new ≡ fault.old) }
-    ensures unfit { guess_fault guess.now ≡ 0 → IfErr (guessed_state player.now (guess_of guess.now))
+    ensures refused { team_fault guess.now.team ≢ 0 → (result ≡ team_fault guess.now.team) × (fault.new ≡ fault.old) }
+    ensures unfit { team_fault guess.now.team ≡ 0 → IfErr (guessed_state player.now (guess_of guess.now))
         (λ why. (result ≡ code_of why) × (fault.new ≡ fault_form_of why)) }
-    ensures accepts { guess_fault guess.now ≡ 0 → IfOk (guessed_state player.now (guess_of guess.now))
+    ensures accepts { team_fault guess.now.team ≡ 0 → IfOk (guessed_state player.now (guess_of guess.now))
         (λ state. result ≡ 0 ↔ IsBattle (bytes_of (completed state))) }
     ensures made { result ≡ 0 → IfOk (guessed_state player.now (guess_of guess.now))
         (λ state. battle.new ≡ parts_of (bytes_of (completed state))) }
-    ensures wrong { guess_fault guess.now ≡ 0 → result ≢ 0 → IfOk (guessed_state player.now (guess_of guess.now))
+    ensures wrong { team_fault guess.now.team ≡ 0 → result ≢ 0 → IfOk (guessed_state player.now (guess_of guess.now))
         (λ state. (result ≡ 23) × (fault.new ≡ fault_form_of (faults.State (fault_of (completed state))))) }
     ensures stands { result ≡ 0 → StandsForSome battle.new }
     ensures faultless { result ≡ 0 → fault.new ≡ fault.old }
@@ -99,23 +93,15 @@ pub extern "C" fn gen1_battle_from_player(
     }
 }
 
-// The guess that a struct describes, or the error of its rules, its limit or its team.
+// The guess that a struct describes, or the error of its team.
 fn guess_of(form: &GuessForm) -> Result<Guess, u32>
-    ensures made { IfOk result (λ guess. (guess ≡ guess_of form.now) × (guess_fault form.now ≡ 0)) }
-    ensures refused { IfErr result (λ code. (code ≡ guess_fault form.now) × (code ≢ 0)) }
+    ensures made { IfOk result (λ guess. (guess ≡ guess_of form.now) × (team_fault form.now.team ≡ 0)) }
+    ensures refused { IfErr result (λ code. (code ≡ team_fault form.now.team) × (code ≢ 0)) }
 {
-    let Some(rules) = Rules::new(form.rules) else {
-        return Err(RULES);
-    };
-    let Some(limit) = TurnLimit::new(form.limit) else {
-        return Err(TURN_LIMIT);
-    };
     match team_of(&form.team) {
         Ok(team) => Ok(Guess {
             team,
             numbers: form.numbers,
-            rules,
-            limit,
         }),
         Err(code) => Err(code),
     }

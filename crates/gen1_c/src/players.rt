@@ -1,5 +1,5 @@
 //! What a player knows, and what it is told (include/gen1.h, "players"; docs/MECHANICS.md, "Player's view").
-ghost use Rattle.std.specs.Prelude.{List, [], length as length_of, ◌++◌, ◌≡◌, ◌≢◌, ◌≤◌, ℕ};
+ghost use Rattle.std.specs.Prelude.{IfErr, IfOk, List, [], length as length_of, ◌++◌, ◌≡◌, ◌≢◌, ◌≤◌, ℕ};
 ghost use Rattle.gen1_stats.specs.Members.{Member};
 ghost use Rattle.gen1_stats.specs.Teams.{team_of};
 ghost use Rattle.gen1_machine.specs.State.{State};
@@ -10,17 +10,16 @@ ghost use Rattle.gen1_layout.specs.Within.{Stands};
 ghost use Rattle.gen1_player.specs.OwnSide.{own_side};
 ghost use Rattle.gen1_player.specs.PlainOwnSide.{IsListed, plain_side};
 ghost use Rattle.gen1_player.specs.Player.{IsFed, IsPlayer, Shown, not_shown, player_of};
-ghost use Rattle.gen1_player.specs.Telling.{form_of};
-ghost use Rattle.gen1_c.specs.Players.{BreaksOff, Tells, begin_code, first_teller, log_code, side_code};
+ghost use Rattle.gen1_c.specs.Players.{BreaksOff, Tells, begin_code, first_teller, log_code, side_code, terms_code, terms_of};
 ghost use Rattle.gen1_c.specs.Teams.{sheets_of, team_fault};
 ghost use Rattle.gen1_c.specs.Update.{IsNoSide};
 
-use crate::codes::of_log;
+use crate::codes::{RULES, TURN_LIMIT, of_log};
 use crate::fronts::put_front;
 use crate::teams::{TeamForm, team_of};
 use gen1_layout::Packed;
-use gen1_machine::Side;
-use gen1_player::{HpForm, OwnSide, Player, Teller, own_side};
+use gen1_machine::{Rules, Side, TurnLimit};
+use gen1_player::{HpForm, OwnSide, Player, PlayerTerms, Teller, own_side};
 
 // The codes of include/gen1.h, "players".
 const NO_SIDE: u8 = 40;
@@ -31,43 +30,82 @@ const TOO_MANY_FOES: u32 = 14;
 
 const LONG_LOG: u8 = 28;
 
-/// Sets a player to what it knows before a battle. Returns 0, or the first error: of the side, of the number of foes, of the team.
+/// What a player is given before a battle, besides its side and its team.
+#[derive(Drop)]
+#[repr(C)]
+pub struct PlayerTermsForm {
+    /// 1 to 9,999.
+    pub limit: u16,
+    /// 0 to 3.
+    pub rules: u8,
+    /// How many members the foe has, 0 to 6; 0 if the player isn't to know it.
+    pub foes: u8,
+    /// 0 exact, 2 hundredths, any other number the bar.
+    pub hp_form: u8,
+    /// Ignored.
+    pub reserved: u8,
+}
+
+/// Sets a player to what it knows before a battle. Returns 0, or the first error: of the side, of the number of foes, of the rules, of
+/// the limit, of the team.
 #[unsafe(no_mangle)]
 pub extern "C" fn gen1_player_begin(
     player: &mut Player,
     side: u8,
     team: &TeamForm,
-    foes: u8,
-    hp_form: u8,
+    terms: &PlayerTermsForm,
 ) -> u32
-    ensures code { result ≡ begin_code side foes (team_fault team.now) }
+    ensures code { result ≡ begin_code side terms.now (team_fault team.now) }
     ensures begun { result ≡ 0 → (s : Side) → side ≡ side_number s
-        → player.new ≡ player_of s (team_of (sheets_of team.now)) foes (form_of hp_form) [] [] (record { own = not_shown; offered = 0 }) }
+        → player.new ≡ player_of s (team_of (sheets_of team.now)) (terms_of terms.now) [] [] (record { own = not_shown; offered = 0 }) }
     ensures kept { result ≢ 0 → player.new ≡ player.old }
 {
     let Some(side) = Side::from_number(side) else {
         return u32::from(NO_SIDE);
     };
-    if foes > 6 {
-        return TOO_MANY_FOES;
-    }
+    let terms = match terms_of(terms) {
+        Ok(terms) => terms,
+        Err(code) => return code,
+    };
     match team_of(team) {
         Ok(team) => {
-            *player = Player::new(side, &team, foes, HpForm::of_number(hp_form));
+            *player = Player::new(side, &team, &terms);
             0
         }
         Err(fault) => fault,
     }
 }
 
+// The terms that a struct describes, or the error of its number of foes, its rules or its limit.
+fn terms_of(form: &PlayerTermsForm) -> Result<PlayerTerms, u32>
+    ensures made { IfOk result (λ terms. (terms ≡ terms_of form.now) × (terms_code form.now ≡ 0)) }
+    ensures refused { IfErr result (λ code. (code ≡ terms_code form.now) × (code ≢ 0)) }
+{
+    if form.foes > 6 {
+        return Err(TOO_MANY_FOES);
+    }
+    let Some(rules) = Rules::new(form.rules) else {
+        return Err(RULES);
+    };
+    let Some(limit) = TurnLimit::new(form.limit) else {
+        return Err(TURN_LIMIT);
+    };
+    Ok(PlayerTerms {
+        rules,
+        limit,
+        foes: form.foes,
+        hp_form: HpForm::of_number(form.hp_form),
+    })
+}
+
 /// Feeds a player the next bytes of what its side is told, which may be cut anywhere. Returns 0, or the code of the error.
 #[unsafe(no_mangle)]
 pub extern "C" fn gen1_player_feed(player: &mut Player, told: &[u8]) -> u8
-    ensures fed { (side : Side) (team : List Member) (foes : ℕ) (form : HpForm) (before : List ℕ) (shown : Shown)
-        → IsPlayer side team foes form before shown player.old → result ≡ 0
-        → IsPlayer side team foes form (before ++ told.now) shown player.new }
-    ensures fault { (side : Side) (team : List Member) (foes : ℕ) (form : HpForm) (before : List ℕ) (shown : Shown)
-        → IsPlayer side team foes form before shown player.old → result ≢ 0
+    ensures fed { (side : Side) (team : List Member) (terms : PlayerTerms) (before : List ℕ) (shown : Shown)
+        → IsPlayer side team terms before shown player.old → result ≡ 0
+        → IsPlayer side team terms (before ++ told.now) shown player.new }
+    ensures fault { (side : Side) (team : List Member) (terms : PlayerTerms) (before : List ℕ) (shown : Shown)
+        → IsPlayer side team terms before shown player.old → result ≢ 0
         → (fault : LogFault) × (result ≡ log_code fault) × BreaksOff fault (before ++ told.now) }
     // For any bytes, valid or not.
     ensures code { result ≢ 0 → (32 ≤ result) × (result ≤ 34) }
@@ -84,9 +122,9 @@ pub extern "C" fn gen1_player_feed(player: &mut Player, told: &[u8]) -> u8
 #[unsafe(no_mangle)]
 pub extern "C" fn gen1_player_show(player: &mut Player, own: &OwnSide, offered: u16)
     ensures changed { player.new ≡ record player.old { own = own.now; offered = offered } }
-    ensures shown { (side : Side) (team : List Member) (foes : ℕ) (form : HpForm) (told : List ℕ) (shown : Shown)
-        → IsPlayer side team foes form told shown player.old
-        → IsPlayer side team foes form told (record { own = own.now; offered = offered }) player.new }
+    ensures shown { (side : Side) (team : List Member) (terms : PlayerTerms) (told : List ℕ) (shown : Shown)
+        → IsPlayer side team terms told shown player.old
+        → IsPlayer side team terms told (record { own = own.now; offered = offered }) player.new }
 {
     player.show(own, offered);
 }

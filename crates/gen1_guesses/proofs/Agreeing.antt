@@ -2,7 +2,7 @@
 use Rattle.gen1_machine.specs.LogBytes.{kind_or_0}
 use Rattle.gen1_player.proofs.Sleeping.{sleepers_agree}
 use Rattle.gen1_player.specs.Player.{known_at}
-use Rattle.std.proofs.Common.{Bool, List, Option, Some, ap, arith, cond, false, inl, inr, is_some, length, refl, slice_index_or, subst, sym, true, unwrap_or, ℕ, ◌+◌, ◌-◌, ◌<◌, ◌==◌, ◌∙◌, ◌≡◌, ◌≢◌, ◌≤◌, ◌⊎◌, suc, zero}
+use Rattle.std.proofs.Common.{Bool, List, Option, Some, ap, arith, cond, false, inl, inr, is_some, length, refl, slice_index_or, subst, sym, true, unwrap_or, ℕ, ◌*◌, ◌+◌, ◌-◌, ◌<◌, ◌==◌, ◌∙◌, ◌≡◌, ◌≢◌, ◌≤◌, ◌⊎◌, suc, zero}
 use Rattle.std.specs.Prelude.{None, nat_lt, if◌then◌else◌, nat_le, ◌&&◌}
 use Rattle.std.proofs.lemmas.Bool.{false≢true}
 use Rattle.std.proofs.lemmas.Bool.Decides.{eqb_tells, nat_tests}
@@ -16,11 +16,11 @@ use Rattle.gen1_machine.specs.declared.terms.Outcome.{Outcome}
 use Rattle.gen1_machine.specs.declared.terms.Outcome.TheVariants as outcomes
 use Rattle.gen1_machine.specs.Layout.{outcome_byte}
 use Rattle.gen1_machine.specs.Numbers.{side_number}
-use Rattle.gen1_machine.specs.Rules.{bit_of, Rules}
+use Rattle.gen1_machine.specs.Rules.{bit_of, bits_of_rules, rules_of, Rules}
 use Rattle.gen1_machine.specs.Sides.{other}
-use Rattle.gen1_machine.specs.State.{active_in, conditions_in, first_state, member_at, member_in, party, underway_in, Active, Field, Party, State}
+use Rattle.gen1_machine.specs.State.{active_in, conditions_in, first_state, member_at, member_in, party, underway_in, Active, Field, Party, State, Terms}
 use Rattle.gen1_machine.specs.Step.{run, Ran}
-use Rattle.gen1_machine.specs.Valid.{IsMembersUnder, IsMemberUnder, IsStatus, IsParty, IsStarted, IsState, IsUnstarted}
+use Rattle.gen1_machine.specs.Valid.{IsMembersUnder, IsMemberUnder, IsStatus, IsParty, IsStarted, IsState, IsTerms, IsUnstarted}
 use Rattle.gen1_machine.specs.View.{shows, side_shows, Shown}
 use Rattle.gen1_machine.proofs.FirstStates.{first_states_are_valid}
 use Rattle.gen1_machine.proofs.ValidStates.{states_stay_valid}
@@ -48,7 +48,7 @@ use Rattle.gen1_player.proofs.ToldPublic.{holds, met, FoeKept, Known}
 use Rattle.gen1_states.specs.Faults.{on as on_if}
 use Rattle.gen1_states.specs.Plain.{no_member}
 use Rattle.gen1_states.specs.declared.plain.MemberState.{MemberState}
-use Rattle.gen1_guesses.specs.Forks.{AgreesWithFork, ForksAgree, IsFork, IsGuess, HasPlayer, IsToldAs, TrueHpFits, foe_part, own_part}
+use Rattle.gen1_guesses.specs.Forks.{AgreesWithFork, ForksAgree, IsFork, IsGuess, HasPlayer, IsToldAs, TrueHpFits, clause_of, foe_part, own_part}
 use Rattle.gen1_guesses.specs.Active.{is_on}
 use Rattle.gen1_guesses.specs.Members.{fresh_members, hp_of, seen_in}
 use Rattle.gen1_guesses.specs.Tests.{allows_max}
@@ -229,13 +229,27 @@ count_in : (s : Side) (q : Public) (b : Field) → SideDoes (public_side s q) (p
     → (public_side s q).announced.toxic_count ≡ unwrap_or (conditions_in s b).bad_poison 0
 count_in s q b d living = d.toxic_count living
 
+rules_forth : (rules : Rules) → rules_of (bits_of_rules rules) ≡ rules
+rules_forth rules = by rules.sleep_clause rules.freeze_clause
+  where
+    by : (sleep freeze : Bool) → rules_of (bit_of sleep + 2 * bit_of freeze) ≡ record { sleep_clause = sleep; freeze_clause = freeze }
+    by false false = refl
+    by false true = refl
+    by true false = refl
+    by true true = refl
+
+terms_by : (a b : Terms) → a.rules ≡ b.rules → a.limit ≡ b.limit → a ≡ b
+terms_by a b rules limit =
+    ap (λ (r : Rules). record a { rules = r }) rules ∙ ap (λ (n : ℕ). record b { limit = n }) limit
+
 -- All of it
 
 module _ (s : Side) (team : List Member) (t : Teller) (q : Public) (b : State) (valid : IsState b)
     (known : Known s team t q) (view : AgreesWith q (shows b.field)) (told : IsTold q b.field) (does : BothDo q b.field)
-    (members : SideHasAppeared q.one b.field.one × SideHasAppeared q.two b.field.two) (truth : Bool) (sleeps : (u : Side) → SideSleeps truth (public_side u q) (party u b.field))
+    (members : SideHasAppeared q.one b.field.one × SideHasAppeared q.two b.field.two) (terms : Terms) (sleeps : (u : Side) → SideSleeps terms.rules.sleep_clause (public_side u q) (party u b.field))
     (p : Player) (few : p.hp_form ≤ 2) (side : p.side ≡ side_number s) (public : p.public ≡ as_known s team t q) (shown : p.own ≡ plain_side (own_side s b.field))
     (slots : (k : ℕ) → length (seen_in k (public_side (other s) p.public).members).moves ≡ 5)
+    (terms_ok : IsTerms terms) (limit : p.limit ≡ terms.limit) (rules : p.rules ≡ bits_of_rules terms.rules)
     (g : Guess) (f : State) (guess : IsGuess g) (fork : IsFork p g f) where
   x_is : public_side (other s) p.public ≡ foe_as_told t (public_side (other s) q)
   x_is = ap (public_side (other s)) public ∙ foe_of_public s team t q
@@ -259,7 +273,7 @@ module _ (s : Side) (team : List Member) (t : Teller) (q : Public) (b : State) (
   party_b u = party_valid u b.terms b.field starts_b.field
 
   short_b : (u : Side) (place : ℕ) → (seen_at place (public_side u q)).species ≢ 0 → IsShort (seen_at place (public_side u q))
-  short_b u place z = short-of truth b.terms.rules (seen_at place (public_side u q)) (member_at place (party u b.field))
+  short_b u place z = short-of terms.rules.sleep_clause b.terms.rules (seen_at place (public_side u q)) (member_at place (party u b.field))
       (status_ok b.terms.rules (party u b.field) (place - 1) (party_b u).members (λ e. z (((appeared_of u q b.field members).each place z).species ∙ e)))
       (((view_of u q b.field view).members place z).1 ∙ ap (λ (m : Shown). kind_or_0 m.kind) (shows_at (party u b.field) place)) (sleeps u place z)
 
@@ -273,9 +287,17 @@ module _ (s : Side) (team : List Member) (t : Teller) (q : Public) (b : State) (
   turn_p = ap (λ (o : OwnSide). o.turn) shown
 
   sides : HasSides s p g f
-  sides = has_sides s p g f fork side (λ e. now_b (sym turn_p ∙ e)) (own_plain g.rules.sleep_clause p.own (public_side s p.public) s b valid shows_p)
-      (foe_plain g.rules.sleep_clause (public_side (other s) p.public) (is_on p.own.held) g.team guess.team)
-      (let limit = starts_b.field.turn in let most = valid.terms.limit.1 in let e = turn_p in omega (arith, limit, most, e)) guess.limit guess.numbers
+  sides = has_sides s p g f fork side (λ e. now_b (sym turn_p ∙ e)) (own_plain (clause_of p) p.own (public_side s p.public) s b valid shows_p)
+      (foe_plain (clause_of p) (public_side (other s) p.public) (is_on p.own.held) g.team guess.team)
+      (let limit = starts_b.field.turn in let most = valid.terms.limit.1 in let e = turn_p in omega (arith, limit, most, e))
+      (let most = terms_ok.limit.1 in let e = limit in omega (arith, most, e)) guess.numbers
+
+  clause_is : clause_of p ≡ terms.rules.sleep_clause
+  clause_is = ap (λ (n : ℕ). (rules_of n).sleep_clause) rules ∙ ap (λ (r : Rules). r.sleep_clause) (rules_forth terms.rules)
+
+  terms_are : f.terms ≡ terms
+  terms_are = terms_by f.terms terms
+      (sym (rules_forth f.terms.rules) ∙ ap rules_of (sides.rules ∙ rules) ∙ rules_forth terms.rules) (sides.limit ∙ limit)
 
   now_f : f.field.turn ≡ 0 → ⊥
   now_f e = now_b (sym turn_p ∙ sym sides.turn ∙ e)
@@ -286,11 +308,11 @@ module _ (s : Side) (team : List Member) (t : Teller) (q : Public) (b : State) (
   party_f : (u : Side) → IsParty f.terms.rules (party u f.field)
   party_f u = party_valid u f.terms f.field (started f valid_f now_f).field
 
-  own_holds : Holds (party s f.field) (own_part g.rules.sleep_clause p.own (public_side s p.public))
-  own_holds = holds_side s f.field (own_part g.rules.sleep_clause p.own (public_side s p.public)) now_f sides.own
+  own_holds : Holds (party s f.field) (own_part (clause_of p) p.own (public_side s p.public))
+  own_holds = holds_side s f.field (own_part (clause_of p) p.own (public_side s p.public)) now_f sides.own
 
-  foe_holds : Holds (party (other s) f.field) (foe_part g.rules.sleep_clause (public_side (other s) p.public) (is_on p.own.held) (fresh_members g.team))
-  foe_holds = holds_side (other s) f.field (foe_part g.rules.sleep_clause (public_side (other s) p.public) (is_on p.own.held) (fresh_members g.team)) now_f sides.foe
+  foe_holds : Holds (party (other s) f.field) (foe_part (clause_of p) (public_side (other s) p.public) (is_on p.own.held) (fresh_members g.team))
+  foe_holds = holds_side (other s) f.field (foe_part (clause_of p) (public_side (other s) p.public) (is_on p.own.held) (fresh_members g.team)) now_f sides.foe
 
   -- The own side
 
@@ -301,7 +323,7 @@ module _ (s : Side) (team : List Member) (t : Teller) (q : Public) (b : State) (
   last_is = ap (λ (y : PublicSide). y.last_move) own_is
 
   alike : Alike (party s f.field) (party s b.field)
-  alike = own_alike g.rules.sleep_clause p.own (public_side s p.public) s f b shows_p own_holds (party_f s) (party_b s) (last_is ∙ own_q.last_move)
+  alike = own_alike (clause_of p) p.own (public_side s p.public) s f b shows_p own_holds (party_f s) (party_b s) (last_is ∙ own_q.last_move)
       (subst (λ (n : ℕ). IsMoveOf (member_in s b.field) n) (sym last_is) (appeared_of s q b.field members).last_move)
 
   own_has : SideHasAppeared (public_side s q) (party s f.field)
@@ -325,7 +347,7 @@ module _ (s : Side) (team : List Member) (t : Teller) (q : Public) (b : State) (
 
   hp_x : (i : ℕ) → i < 6 → (seen_in i (public_side (other s) p.public).members).species ≢ 0 → let m : Member = slice_index_or (party (other s) f.field).members i nobody in
       IsToldAs p.hp_form (seen_in i (public_side (other s) p.public).members).hp (seen_in i (public_side (other s) p.public).members).max m.hp m.max
-  hp_x = hp_told g.rules.sleep_clause (public_side (other s) p.public) (is_on p.own.held) g.team (party (other s) f.field) f.terms.rules p foe_holds (party_f (other s)) fitting
+  hp_x = hp_told (clause_of p) (public_side (other s) p.public) (is_on p.own.held) g.team (party (other s) f.field) f.terms.rules p foe_holds (party_f (other s)) fitting
 
   -- The trapping of the foe
 
@@ -335,7 +357,7 @@ module _ (s : Side) (team : List Member) (t : Teller) (q : Public) (b : State) (
       let on : is_on p.own.held ≡ is_some (underway_in (other s) b.field).trapping = on_is _ _ held_p in
       let last : (public_side (other s) p.public).last_move ≡ current_move_of (party (other s) b.field) = ap (λ (z : PublicSide). z.last_move) x_is ∙ foe_q.last_move in
       let tied = (party_b (other s)).active.conditions.underway.trapping_tied in
-      ap bit_of (traps_on g.rules.sleep_clause (public_side (other s) p.public) (is_on p.own.held) (fresh_members g.team) (party (other s) f.field) f.terms.rules p foe_holds (party_f (other s)) foe_x fitting
+      ap bit_of (traps_on (clause_of p) (public_side (other s) p.public) (is_on p.own.held) (fresh_members g.team) (party (other s) f.field) f.terms.rules p foe_holds (party_f (other s)) foe_x fitting
       ∙ and_same _ _ (λ z. explained traps (party (other s) b.field) _ last (current_known b.terms.rules (party (other s) b.field) (party_b (other s))) (tied (sym on ∙ z))) ∙ on)
 
   -- Leech Seed and bad poison
@@ -358,8 +380,8 @@ module _ (s : Side) (team : List Member) (t : Teller) (q : Public) (b : State) (
           let low : (public_side (other s) p.public).place - 1 < 6 = (let l = o.1 in omega (arith, place, l)) in
           let named : (seen_in ((public_side (other s) p.public).place - 1) (public_side (other s) p.public).members).species ≢ 0 =
           λ z. o.3 (ap (λ (i : ℕ). (seen_in i (public_side (other s) p.public).members).species) (sym back) ∙ z) in
-          let dead = fallen_if_told g.rules.sleep_clause (public_side (other s) p.public) (is_on p.own.held) g.team (party (other s) f.field) f.terms.rules p foe_holds (party_f (other s)) fitting ((public_side (other s) p.public).place - 1) low named none_x in
-          absurd (not_living _ (ap (λ (n : ℕ). (member_at n (party (other s) f.field)).hp) (foe_place g.rules.sleep_clause (public_side (other s) p.public) (is_on p.own.held) (fresh_members g.team) (party (other s) f.field) f.terms.rules p foe_holds (party_f (other s)) foe_x fitting) ∙ dead) living)
+          let dead = fallen_if_told (clause_of p) (public_side (other s) p.public) (is_on p.own.held) g.team (party (other s) f.field) f.terms.rules p foe_holds (party_f (other s)) fitting ((public_side (other s) p.public).place - 1) low named none_x in
+          absurd (not_living _ (ap (λ (n : ℕ). (member_at n (party (other s) f.field)).hp) (foe_place (clause_of p) (public_side (other s) p.public) (is_on p.own.held) (fresh_members g.team) (party (other s) f.field) f.terms.rules p foe_holds (party_f (other s)) foe_x fitting) ∙ dead) living)
 
   seeded_x : is_living (member_at (party (other s) f.field).active.place (party (other s) f.field)) ≡ true → IsFlag (public_side (other s) p.public).announced.seeded
   seeded_x living = subst (λ (z : PublicSide). IsFlag z.announced.seeded) (sym x_is) (flag_of _ _ ((told_of (other s) q b.field told).seeded (foe_lives living)))
@@ -375,11 +397,12 @@ module _ (s : Side) (team : List Member) (t : Teller) (q : Public) (b : State) (
       let o : Option ℕ = (conditions_in s b.field).bad_poison in
       let count : (public_side s q).announced.toxic_count ≡ unwrap_or o 0 = count_in s q b.field own_q (lives-alike _ _ alike living) in
       counted_if (is_some o) (public_side s q).announced.toxic_count (λ off. count ∙ none_left o off)
-      ∙ ap (λ (n : ℕ). on_if (is_some o) n) (sym known) ∙ sym (own_poison g.rules.sleep_clause p.own (public_side s p.public) s (party s f.field) b.field shows_p own_holds)
+      ∙ ap (λ (n : ℕ). on_if (is_some o) n) (sym known) ∙ sym (own_poison (clause_of p) p.own (public_side s p.public) s (party s f.field) b.field shows_p own_holds)
 
-  pub whole : AgreesWithFork s team p g.rules.sleep_clause f.field
+  pub whole : AgreesWithFork terms s team p f
   whole = record {
-    own = same_shown s f b alike (party_f s) (party_b s) (stats_of_own g.rules.sleep_clause p.own (public_side s p.public) s f.field b.field now_f sides.own shows_p) (slot_of_own g.rules.sleep_clause p.own (public_side s p.public) s f.field b.field own_holds shows_p) held_f (sides.turn ∙ turn_p)
+    terms = terms_are;
+    own = same_shown s f b alike (party_f s) (party_b s) (stats_of_own (clause_of p) p.own (public_side s p.public) s f.field b.field now_f sides.own shows_p) (slot_of_own (clause_of p) p.own (public_side s p.public) s f.field b.field own_holds shows_p) held_f (sides.turn ∙ turn_p)
         (sides.request ∙ ap (λ (o : OwnSide). o.request) shown)
         (sides.outcome ∙ sym fitting.going ∙ ap (λ (o : OwnSide). o.outcome) shown) ∙ sym shown;
     teller = teller_of s p.hp_form (public_side (other s) p.public);
@@ -388,18 +411,19 @@ module _ (s : Side) (team : List Member) (t : Teller) (q : Public) (b : State) (
     public = with_foe s (exact (party (other s) f.field) (public_side (other s) p.public)) q;
     known = public ∙ known_with s team t (teller_of s p.hp_form (public_side (other s) p.public)) q (exact (party (other s) f.field) (public_side (other s) p.public))
         (as_told (public_side (other s) p.public) numbered_x s p.hp_form (party (other s) f.field) hp_x fitting.foe_out ∙ x_is);
-    view = whole_view s q _ f.field (view-alike (public_side s q) _ _ alike (view_of s q b.field view)) (foe_view g.rules.sleep_clause (public_side (other s) p.public) (is_on p.own.held) (fresh_members g.team) (party (other s) f.field) f.terms.rules p foe_holds (party_f (other s)) foe_x fitting)
+    view = whole_view s q _ f.field (view-alike (public_side s q) _ _ alike (view_of s q b.field view)) (foe_view (clause_of p) (public_side (other s) p.public) (is_on p.own.held) (fresh_members g.team) (party (other s) f.field) f.terms.rules p foe_holds (party_f (other s)) foe_x fitting)
         (turn_of view ∙ sym (sides.turn ∙ turn_p)) (outcome_of view ∙ sym (ap (λ (o : OwnSide). o.outcome) shown) ∙ fitting.going ∙ sym sides.outcome);
-    conditions = whole_told s q _ f.field (told-alike (public_side s q) _ _ alike (told_of s q b.field told)) (foe_told g.rules.sleep_clause (public_side (other s) p.public) (is_on p.own.held) (fresh_members g.team) (party (other s) f.field) f.terms.rules p foe_holds (party_f (other s)) foe_x fitting seeded_x);
-    actives = whole_does s q _ f.field (does-alike (public_side s q) _ _ alike count_own own_q) (foe_does g.rules.sleep_clause (public_side (other s) p.public) (is_on p.own.held) (fresh_members g.team) (party (other s) f.field) f.terms.rules p foe_holds (party_f (other s)) foe_x fitting count_x) does.may_hit_itself;
+    conditions = whole_told s q _ f.field (told-alike (public_side s q) _ _ alike (told_of s q b.field told)) (foe_told (clause_of p) (public_side (other s) p.public) (is_on p.own.held) (fresh_members g.team) (party (other s) f.field) f.terms.rules p foe_holds (party_f (other s)) foe_x fitting seeded_x);
+    actives = whole_does s q _ f.field (does-alike (public_side s q) _ _ alike count_own own_q) (foe_does (clause_of p) (public_side (other s) p.public) (is_on p.own.held) (fresh_members g.team) (party (other s) f.field) f.terms.rules p foe_holds (party_f (other s)) foe_x fitting count_x) does.may_hit_itself;
     own_members = subst (λ (z : PublicSide). SideHasAppeared z (party s f.field)) (sym (own_side_of s q _))
         own_has;
     foe_members = subst (λ (z : PublicSide). SideHasAppeared z (party (other s) f.field)) (sym (foe_side_of s q _))
-        (foe_appeared g.rules.sleep_clause (public_side (other s) p.public) (is_on p.own.held) (fresh_members g.team) (party (other s) f.field) f.terms.rules p foe_holds (party_f (other s)) foe_x fitting);
-    own_sleepers = subst (λ (z : PublicSide). SideSleeps g.rules.sleep_clause z (party s f.field)) (sym (own_side_of s q _))
-        (own_sleeps g.rules.sleep_clause truth p.own (public_side s p.public) (public_side s q) s f.field b.field shows_p own_holds (party_f s).members.size.1 own_seen (view_of s q b.field view) own_has (short_b s) (sleeps s));
-    foe_sleepers = subst (λ (z : PublicSide). SideSleeps g.rules.sleep_clause z (party (other s) f.field)) (sym (foe_side_of s q _))
-        (foe_sleeps g.rules.sleep_clause (public_side (other s) p.public) (is_on p.own.held) (fresh_members g.team) (party (other s) f.field) f.terms.rules p foe_holds (party_f (other s)) foe_x fitting);
+        (foe_appeared (clause_of p) (public_side (other s) p.public) (is_on p.own.held) (fresh_members g.team) (party (other s) f.field) f.terms.rules p foe_holds (party_f (other s)) foe_x fitting);
+    own_sleepers = subst (λ (z : PublicSide). SideSleeps terms.rules.sleep_clause z (party s f.field)) (sym (own_side_of s q _))
+        (subst (λ (c : Bool). SideSleeps c (public_side s q) (party s f.field)) clause_is (own_sleeps (clause_of p) terms.rules.sleep_clause p.own (public_side s p.public) (public_side s q) s f.field b.field shows_p own_holds (party_f s).members.size.1 own_seen (view_of s q b.field view) own_has (short_b s) (sleeps s)));
+    foe_sleepers = subst (λ (z : PublicSide). SideSleeps terms.rules.sleep_clause z (party (other s) f.field)) (sym (foe_side_of s q _))
+        (subst (λ (c : Bool). SideSleeps c (exact (party (other s) f.field) (public_side (other s) p.public)) (party (other s) f.field)) clause_is
+        (foe_sleeps (clause_of p) (public_side (other s) p.public) (is_on p.own.held) (fresh_members g.team) (party (other s) f.field) f.terms.rules p foe_holds (party_f (other s)) foe_x fitting));
   }
     where
       turn_of : AgreesWith q (shows b.field) → q.turn ≡ b.field.turn
@@ -415,11 +439,11 @@ form_small Exact = omega arith
 form_small Bar = omega arith
 form_small Hundredths = omega arith
 
-form_of_player : (s : Side) (one two : List Member) (r : Ran) (p : Player) (player : HasPlayer s one two r p) → p.hp_form ≡ form_number player.form
-form_of_player s one two r p player = ap (λ (z : Player). z.hp_form) player.is.is
+form_of_player : (t : Terms) (s : Side) (one two : List Member) (r : Ran) (p : Player) (player : HasPlayer t s one two r p) → p.hp_form ≡ form_number player.form
+form_of_player t s one two r p player = ap (λ (z : Player). z.hp_form) player.is.is
 
-form_few : (s : Side) (one two : List Member) (r : Ran) (p : Player) → HasPlayer s one two r p → p.hp_form ≤ 2
-form_few s one two r p player = subst (λ (n : ℕ). n ≤ 2) (sym (form_of_player s one two r p player)) (form_small player.form)
+form_few : (t : Terms) (s : Side) (one two : List Member) (r : Ran) (p : Player) → HasPlayer t s one two r p → p.hp_form ≤ 2
+form_few t s one two r p player = subst (λ (n : ℕ). n ≤ 2) (sym (form_of_player t s one two r p player)) (form_small player.form)
 
 pub forks_agree : ForksAgree
 forks_agree t one two seed pairs terms stream team_one team_two s p player g f guess fork =
@@ -435,8 +459,9 @@ forks_agree t one two seed pairs terms stream team_one team_two s p player g f g
     let does : BothDo (public_of r) r.state.field = actives_agree t one two seed pairs terms stream team_one team_two
     (no_fault r.state.field.outcome (sym (ap (λ (o : OwnSide). o.outcome) own) ∙ going)) in
     whole s team (meets_all (events_in r) (first_teller s form)) (public_of r) r.state valid (met s form team r tellable) view
-    (conditions_agree t one two seed pairs team_one team_two) does (members_agree t one two seed pairs team_one team_two) t.rules.sleep_clause (sleepers_agree t one two seed pairs team_one team_two)
-    p (form_few s one two r p player) side (holds s form one two r tellable player.foes player.form player.log _ p player.told player.is) own player.slots g f guess fork
+    (conditions_agree t one two seed pairs team_one team_two) does (members_agree t one two seed pairs team_one team_two) t (sleepers_agree t one two seed pairs team_one team_two)
+    p (form_few t s one two r p player) side (holds s form one two r tellable _ player.log _ p player.told player.is) own player.slots terms
+    (ap (λ (z : Player). z.limit) player.is.is) (ap (λ (z : Player). z.rules) player.is.is) g f guess fork
 
 -- True maxima
 
@@ -490,8 +515,8 @@ true_hp_fits t one two seed pairs terms stream team_one team_two s p player k z 
     let valid : IsState r.state = states_stay_valid (first_state t one two seed) pairs (first_states_are_valid t one two seed terms team_one team_two stream) in
     let teller : Teller = meets_all (events_in r) (first_teller s p.hp_form) in
     let foe : PublicSide = public_side (other s) (public_of r) in
-    let known = subst (λ (n : ℕ). p.public ≡ as_known s team (meets_all (events_in r) (first_teller s n)) (public_of r)) (sym (form_of_player s one two r p player))
-    (holds s (form_number player.form) one two r tellable player.foes player.form player.log _ p player.told player.is) in
+    let known = subst (λ (n : ℕ). p.public ≡ as_known s team (meets_all (events_in r) (first_teller s n)) (public_of r)) (sym (form_of_player t s one two r p player))
+    (holds s (form_number player.form) one two r tellable _ player.log _ p player.told player.is) in
     let is : public_side (other s) p.public ≡ foe_as_told teller foe = ap (public_side (other s)) known ∙ foe_of_public s team teller (public_of r) in
     let fits = true_there teller foe (party (other s) r.state.field) r.state.terms.rules (met s p.hp_form team r tellable).foe (members_under (other s) r.state valid)
     (view_of (other s) (public_of r) r.state.field (agrees t one two seed pairs team_one team_two))

@@ -6,7 +6,7 @@ use Rattle.gen1_player.specs.Public.{public_side}
 use Rattle.gen1_player.specs.declared.player.Player.{Player}
 use Rattle.gen1_player.specs.declared.public_side.PublicSide.{PublicSide}
 use Rattle.gen1_states.specs.declared.plain.MemberState.{MemberState}
-use Rattle.gen1_guesses.specs.Forks.{forked, guessed_for, if_fits, foe_of, foe_request, guessed_state, in_order, own_of, IsFork}
+use Rattle.gen1_guesses.specs.Forks.{clause_of, forked, guessed_for, if_fits, foe_of, foe_request, guessed_state, in_order, own_of, IsFork}
 use Rattle.gen1_guesses.specs.Members.{fresh_members}
 use Rattle.gen1_guesses.specs.Tests.{Tested, tested}
 use Rattle.gen1_guesses.specs.declared.guess.Guess.{Guess}
@@ -17,7 +17,7 @@ use Rattle.gen1_stats.specs.Members.{nobody, Member}
 use Rattle.gen1_machine.specs.declared.side.Side.TheVariants.{One, Two}
 use Rattle.gen1_machine.specs.Layout.{outcome_byte, request_byte, used_byte}
 use Rattle.gen1_machine.specs.Numbers.{side_number}
-use Rattle.gen1_machine.specs.Rules.{bit_of, Rules}
+use Rattle.gen1_machine.specs.Rules.{bit_of, bits_of_rules, Rules}
 use Rattle.gen1_machine.specs.Stages.{now_at}
 use Rattle.gen1_machine.specs.State.{nobody_out, request_of, State, active_in, known_in, member_at, member_in, party, Field, Party, Terms}
 use Rattle.gen1_layout.specs.Parts.{parts_of}
@@ -73,13 +73,13 @@ ordered Two a b = b ∷ a ∷ []
 
 -- The sides of a battle that fits, with their current stats.
 abbrev pub own_whole : Side → Player → Guess → SideState
-own_whole s p g = completed_side (own_of g.rules.sleep_clause s p)
+own_whole s p g = completed_side (own_of (clause_of p) s p)
 
 abbrev pub foe_whole : Side → Player → Guess → SideState
-foe_whole s p g = completed_side (foe_of g.rules.sleep_clause s p (fresh_members g.team))
+foe_whole s p g = completed_side (foe_of (clause_of p) s p (fresh_members g.team))
 
 abbrev asked_of : Side → Player → Guess → ℕ
-asked_of s p g = foe_request p.own.request (foe_of g.rules.sleep_clause s p (fresh_members g.team))
+asked_of s p g = foe_request p.own.request (foe_of (clause_of p) s p (fresh_members g.team))
 
 abbrev whole_of : Side → Player → Guess → BattleState
 whole_of s p g = record (forked s p g (fresh_members g.team)) {
@@ -137,11 +137,13 @@ pub record HasSides (s : Side) (p : Player) (g : Guess) (f : State) : Type 0 whe
   pub own : side_state s f.field ≡ own_whole s p g
   pub foe : side_state (other s) f.field ≡ foe_whole s p g
   pub turn : f.field.turn ≡ p.own.turn
+  pub limit : f.terms.limit ≡ p.limit
+  pub rules : bits_of_rules f.terms.rules ≡ p.rules
   pub outcome : outcome_byte f.field.outcome ≡ 0
   pub request : request_byte (request_of s f.field) ≡ p.own.request
 
-whole_plain : (s : Side) (p : Player) (g : Guess) → IsPlainSide (own_of g.rules.sleep_clause s p) → IsPlainSide (foe_of g.rules.sleep_clause s p (fresh_members g.team))
-    → p.own.turn < 65536 → g.limit < 65536 → length g.numbers ≡ 10 → IsPlain (whole_of s p g)
+whole_plain : (s : Side) (p : Player) (g : Guess) → IsPlainSide (own_of (clause_of p) s p) → IsPlainSide (foe_of (clause_of p) s p (fresh_members g.team))
+    → p.own.turn < 65536 → p.limit < 65536 → length g.numbers ≡ 10 → IsPlain (whole_of s p g)
 whole_plain One p g own foe turn limit ten = record {
   sides = refl;
   one = plain_whole _ own;
@@ -168,6 +170,8 @@ sides_are One p g f e = record {
   own = ap (λ (b : BattleState). first_side b) e;
   foe = ap (λ (b : BattleState). second_side b) e;
   turn = ap (λ (b : BattleState). b.turn) e;
+  limit = ap (λ (b : BattleState). b.limit) e;
+  rules = ap (λ (b : BattleState). b.rules) e;
   outcome = ap (λ (b : BattleState). b.outcome) e;
   request = ap (λ (b : BattleState). slice_index b.requests 0) e;
 }
@@ -175,13 +179,15 @@ sides_are Two p g f e = record {
   own = ap (λ (b : BattleState). second_side b) e;
   foe = ap (λ (b : BattleState). first_side b) e;
   turn = ap (λ (b : BattleState). b.turn) e;
+  limit = ap (λ (b : BattleState). b.limit) e;
+  rules = ap (λ (b : BattleState). b.rules) e;
   outcome = ap (λ (b : BattleState). b.outcome) e;
   request = ap (λ (b : BattleState). slice_index b.requests 1) e;
 }
 
 pub has_sides : (s : Side) (p : Player) (g : Guess) (f : State) (h : IsFork p g f) → p.side ≡ side_number s → (p.own.turn ≡ 0 → ⊥)
-    → IsPlainSide (own_of g.rules.sleep_clause s p) → IsPlainSide (foe_of g.rules.sleep_clause s p (fresh_members g.team))
-    → p.own.turn < 65536 → g.limit < 65536 → length g.numbers ≡ 10 → HasSides s p g f
+    → IsPlainSide (own_of (clause_of p) s p) → IsPlainSide (foe_of (clause_of p) s p (fresh_members g.team))
+    → p.own.turn < 65536 → p.limit < 65536 → length g.numbers ≡ 10 → HasSides s p g f
 has_sides s p g f h side out own foe turn limit ten =
     let is : completed h.state ≡ whole_of s p g = ap completed (sym (fits s p g h.state side h.guessed).1) ∙ whole_by s p g out in
     let stands : Stands (parts_of (bytes_of (whole_of s p g))) f = subst (λ (b : BattleState). Stands (parts_of (bytes_of b)) f) is h.stands in

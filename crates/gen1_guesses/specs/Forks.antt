@@ -1,9 +1,9 @@
 -- The battle that fits what a player knows, its state (docs/MECHANICS.md, "A battle that fits"), and what holds of it.
-use Rattle.std.specs.Prelude.{Bool, Err, List, None, Ok, Option, Result, Some, [], if◌then◌else◌, length, slice_index_or, true, ℕ, ◌==◌, ◌∷◌, ◌+◌, ◌<◌, ◌≡◌, ◌≢◌, ◌≤◌}
+use Rattle.std.specs.Prelude.{Bool, Err, List, None, Ok, Option, Result, Some, [], if◌then◌else◌, length, slice_index_or, true, ℕ, ◌==◌, ◌∷◌, ◌≡◌, ◌≢◌, ◌≤◌}
 use Rattle.gen1_stats.specs.Members.{Member, IsTeam}
 use Rattle.gen1_machine.specs.declared.side.Side.{Side}
 use Rattle.gen1_machine.specs.declared.side.Side.TheVariants.{One, Two}
-use Rattle.gen1_machine.specs.Rules.{bits_of_rules}
+use Rattle.gen1_machine.specs.Rules.{rules_of}
 use Rattle.gen1_machine.specs.Sides.{other}
 use Rattle.gen1_player.specs.declared.hp_form.HpForm.{HpForm}
 use Rattle.gen1_player.specs.declared.own.OwnSide.{OwnSide}
@@ -21,7 +21,7 @@ use Rattle.gen1_guesses.specs.declared.fault.GuessFault.TheVariants as faults
 use Rattle.gen1_guesses.specs.declared.guess.Guess.{Guess}
 use Rattle.gen1_rolls.specs.Streams.{IsStream, Link}
 use Rattle.gen1_machine.specs.declared.choice.Choice.{Choice}
-use Rattle.gen1_machine.specs.State.{first_state, member_at as member_of, party, Field, State, Terms}
+use Rattle.gen1_machine.specs.State.{first_state, member_at as member_of, party, State, Terms}
 use Rattle.gen1_machine.specs.Step.{run, Ran}
 use Rattle.gen1_machine.specs.Valid.{IsTerms}
 use Rattle.gen1_machine.specs.View.{shows}
@@ -73,16 +73,20 @@ abbrev both : Bool → Side → Player → List MemberState → List SideState �
 both clause s p fresh =
     let foe = foe_of clause s p fresh in in_order s (own_of clause s p) p.own.request foe (foe_request p.own.request foe)
 
--- The turn is that of the player; the rest is guessed.
+-- Whether the sleep clause holds, as the player knows it.
+abbrev pub clause_of : Player → Bool
+clause_of p = (rules_of p.rules).sleep_clause
+
+-- The turn, the limit and the rules are those of the player; the rest is guessed.
 abbrev pub forked : Side → Player → Guess → List MemberState → BattleState
 forked s p g fresh = record {
-  sides = (both g.rules.sleep_clause s p fresh).0;
+  sides = (both (clause_of p) s p fresh).0;
   turn = p.own.turn;
-  limit = g.limit;
+  limit = p.limit;
   last_damage = 0;
-  rules = bits_of_rules g.rules;
+  rules = p.rules;
   outcome = 0;
-  requests = (both g.rules.sleep_clause s p fresh).1;
+  requests = (both (clause_of p) s p fresh).1;
   index = 0;
   numbers = g.numbers;
 }
@@ -105,22 +109,22 @@ guessed_state p g = by_side (side_of p.side) p g
 
 -- What holds of a battle that fits
 
--- The player of a side after a run, as the code can hold it: it was fed what a teller told its side, in the player's form of HP, and it was
--- shown its own side last.
-pub record HasPlayer (s : Side) (one two : List Member) (r : Ran) (p : Player) : Type 0 where
+-- The player of a side after a run of a battle by these terms, as the code can hold it: it was given them, fed what a teller told its side,
+-- in the player's form of HP, and shown its own side last.
+pub record HasPlayer (t : Terms) (s : Side) (one two : List Member) (r : Ran) (p : Player) : Type 0 where
   pub foes : ℕ
   pub form : HpForm
   pub offered : ℕ
   pub log : List ℕ
   pub told : IsReading log (told_all (events_in r) (first_teller s (form_number form)))
   pub slots : (k : ℕ) → length (seen_in k (public_side (other s) p.public).members).moves ≡ 5
-  pub is : IsPlayer s (team_of s one two) foes form log (record { own = plain_side (own_side s r.state.field); offered = offered }) p
+  pub is : IsPlayer s (team_of s one two) (record { rules = t.rules; limit = t.limit; foes = foes; hp_form = form }) log
+      (record { own = plain_side (own_side s r.state.field); offered = offered }) p
 
 -- A guess as the code can hold it.
 pub record IsGuess (g : Guess) : Type 0 where
   pub team : IsTeam g.team
   pub numbers : length g.numbers ≡ 10
-  pub limit : g.limit < 65536
 
 -- The battle that `from_player` returns represents this state.
 pub record IsFork (p : Player) (g : Guess) (f : State) : Type 0 where
@@ -144,11 +148,11 @@ abbrev pub ForksTellHp : Type 0
 ForksTellHp = (form n whole most : ℕ) → 11 ≤ most → MayBeTold form n whole most → IsToldAs form n whole (hp_of n whole most) most
 
 -- A statement about a player after any run of a battle of two teams from its start.
-abbrev pub OfPlayers : ((s : Side) (one two : List Member) → Ran → Player → Type 0) → Type 0
+abbrev pub OfPlayers : ((t : Terms) (s : Side) (one two : List Member) → Ran → Player → Type 0) → Type 0
 OfPlayers says = (t : Terms) (one two : List Member) (seed : List ℕ) (pairs : List (Choice × Choice))
     → IsTerms t → IsStream (Link seed) → IsTeam one → IsTeam two
-    → (s : Side) (p : Player) → HasPlayer s one two (run (first_state t one two seed) pairs) p
-    → says s one two (run (first_state t one two seed) pairs) p
+    → (s : Side) (p : Player) → HasPlayer t s one two (run (first_state t one two seed) pairs) p
+    → says t s one two (run (first_state t one two seed) pairs) p
 
 -- The place of the foe's member that has appeared with a number, which counts from 0.
 abbrev pub place_of : ℕ → Side → Ran → Player → ℕ
@@ -156,30 +160,30 @@ place_of k s r p = slice_index_or (meets_all (events_in r) (first_teller s p.hp_
 
 -- No guess with the true maximum of a member is refused for the member's HP.
 abbrev pub TrueHpFits : Type 0
-TrueHpFits = OfPlayers λ s one two r p. (k : ℕ) → (seen_in k (public_side (other s) p.public).members).species ≢ 0
+TrueHpFits = OfPlayers λ t s one two r p. (k : ℕ) → (seen_in k (public_side (other s) p.public).members).species ≢ 0
     → allows_max p.hp_form (seen_in k (public_side (other s) p.public).members) (member_of (place_of k s r p) (party (other s) r.state.field)).max ≡ true
 
 -- The whole
 
--- The player is shown this side of the battle as its own. The public facts that it holds are what a side knows (`PlayersHoldThePublic`) of
--- something that agrees with the battle, as the log of a run does (`PublicAgrees`, `ConditionsAgree`, `ActivesAgree`, `MembersAgree`,
--- `SleepersAgree`) by the rules of the guess.
-pub record AgreesWithFork (s : Side) (team : List Member) (p : Player) (clause : Bool) (f : Field) : Type 0 where
-  pub own : plain_side (own_side s f) ≡ p.own
+-- The battle has these terms, and the player is shown this side of it as its own. The public facts that it holds are what a side knows
+-- (`PlayersHoldThePublic`) of something that agrees with the battle, as the log of a run does (`PublicAgrees`, `ConditionsAgree`,
+-- `ActivesAgree`, `MembersAgree`, `SleepersAgree`).
+pub record AgreesWithFork (t : Terms) (s : Side) (team : List Member) (p : Player) (f : State) : Type 0 where
+  pub terms : f.terms ≡ t
+  pub own : plain_side (own_side s f.field) ≡ p.own
   pub teller : Teller
   pub is_teller : IsTeller s teller
   pub form_is : teller.pixels ≡ p.hp_form
   pub public : Public
   pub known : p.public ≡ as_known s team teller public
-  pub view : AgreesWith public (shows f)
-  pub conditions : IsTold public f
-  pub actives : BothDo public f
-  pub own_members : SideHasAppeared (public_side s public) (party s f)
-  pub foe_members : SideHasAppeared (public_side (other s) public) (party (other s) f)
-  pub own_sleepers : SideSleeps clause (public_side s public) (party s f)
-  pub foe_sleepers : SideSleeps clause (public_side (other s) public) (party (other s) f)
+  pub view : AgreesWith public (shows f.field)
+  pub conditions : IsTold public f.field
+  pub actives : BothDo public f.field
+  pub own_members : SideHasAppeared (public_side s public) (party s f.field)
+  pub foe_members : SideHasAppeared (public_side (other s) public) (party (other s) f.field)
+  pub own_sleepers : SideSleeps t.rules.sleep_clause (public_side s public) (party s f.field)
+  pub foe_sleepers : SideSleeps t.rules.sleep_clause (public_side (other s) public) (party (other s) f.field)
 
 -- After any run of a battle of two teams from its start, of a player and any guess that fits.
 abbrev pub ForksAgree : Type 0
-ForksAgree = OfPlayers λ s one two r p. (g : Guess) (f : State) → IsGuess g → IsFork p g f
-    → AgreesWithFork s (team_of s one two) p g.rules.sleep_clause f.field
+ForksAgree = OfPlayers λ t s one two r p. (g : Guess) (f : State) → IsGuess g → IsFork p g f → AgreesWithFork t s (team_of s one two) p f

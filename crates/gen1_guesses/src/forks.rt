@@ -88,7 +88,7 @@ fn side_of(number: u8) -> Option<Side>
 fn forked(player: &Player, side: Side, guess: &Guess, fresh: &[MemberState; 6]) -> BattleState
     ensures { result ≡ forked side player.now guess.now fresh.now }
 {
-    let clause = guess.rules.sleep_clause();
+    let clause = player.rules % 2 == 1;
     let own = own_part(clause, &player.own, player.public.side(side));
     let foe = foe_part(
         clause,
@@ -101,9 +101,9 @@ fn forked(player: &Player, side: Side, guess: &Guess, fresh: &[MemberState; 6]) 
     BattleState {
         sides,
         turn: player.own.turn,
-        limit: guess.limit.number(),
+        limit: player.limit,
         last_damage: 0,
-        rules: guess.rules.bits(),
+        rules: player.rules,
         outcome: 0,
         requests,
         index: 0,
@@ -174,8 +174,8 @@ pub fn true_hp_fits()
     ensures { TrueHpFits }
 {}
 
-/// After any run from the start, a battle that fits a side's player shows the side the same of itself, and what the player holds as public
-/// agrees with it, as the five `.._agree` of gen1_player say of a run by the guess's rules.
+/// After any run from the start, a battle that fits a side's player has the battle's rules and limit, and shows the side the same of itself;
+/// what the player holds as public agrees with it, as the five `.._agree` of gen1_player say of a run.
 pub fn forks_agree()
     ensures { ForksAgree }
 {}

@@ -1,5 +1,4 @@
 //! A guess of what a player can't know (docs/MECHANICS.md, "A battle that fits").
-use gen1_machine::{Rules, TurnLimit};
 use gen1_stats::Team;
 
 /// A guess of what a player can't know.
@@ -9,8 +8,4 @@ pub struct Guess {
     pub team: Team,
     /// The ten link numbers; the first of them is drawn next.
     pub numbers: [u8; 10],
-    /// The rules of the battle.
-    pub rules: Rules,
-    /// The last turn.
-    pub limit: TurnLimit,
 }

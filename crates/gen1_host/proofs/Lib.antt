@@ -9,7 +9,6 @@ pub mod Cancels
 -- What is sent.
 pub mod Sending
 -- Rows one after the other.
-pub mod Rows
 -- The bytes of a host.
 pub mod LoadedHosts
 -- Worked examples.

@@ -1,6 +1,7 @@
 -- Every stream goes by the draws of some way, so a list in one stage has a battle for every stream.
-use Rattle.std.proofs.Common.{◌≡◌, ◌≢◌, ◌⊎◌, inl, inr, ℕ, zero, suc, ◌*◌, ◌+◌, ◌<◌, ◌≤◌, ◌==◌, Bool, IsTrue, true, false, List, [], ◌∷◌, Option, None, Some, add-one, ap, arith, cond, get_or, refl, subst, sym, ◌∙◌, Err, IfOk, Ok, OnOk, Result}
+use Rattle.std.proofs.Common.{◌≡◌, ◌≢◌, ◌⊎◌, inl, inr, ℕ, zero, suc, ◌*◌, ◌+◌, ◌<◌, ◌≤◌, ◌==◌, Bool, IsTrue, true, false, List, [], ◌∷◌, Option, None, Some, add-one, ap, arith, cond, get_or, length, refl, subst, sym, ◌∙◌, Err, IfOk, Ok, OnOk, Result}
 use Rattle.std.proofs.lemmas.Bool.Decides.{nat_tests}
+use Rattle.std.proofs.lemmas.List.{get_or_default}
 use Rattle.gen1_rolls.specs.declared.look.ByteTest.{ByteTest}
 use Rattle.gen1_rolls.specs.declared.look.Look.{Look}
 use Rattle.gen1_rolls.specs.declared.look.Look.TheVariants.{Below, Factor, Remainder, RotatedBelow}
@@ -18,10 +19,11 @@ use Rattle.gen1_outcomes.specs.declared.nodes.Nodes.{Nodes}
 use Rattle.gen1_outcomes.specs.declared.options.OutcomeOptions.{OutcomeOptions}
 use Rattle.gen1_outcomes.specs.Bytes.{has}
 use Rattle.gen1_outcomes.specs.Classes.{alike_in, told}
-use Rattle.gen1_outcomes.specs.Complete.{GoesBy, IsExact, IsToCome, WaitsAfter, byte_for, byte_or_zero, place_asked, place_before, IsListed, ListsEvery}
-use Rattle.gen1_outcomes.specs.Logs.{AllFit, Fits, NotesAll, NotesEntry, place_after, place_past}
+use Rattle.gen1_outcomes.specs.Complete.{GoesBy, IsExact, IsToCome, WaitsAfter, byte_for, byte_or_zero, place_asked, place_before, IsListed, ListsEvery, Extends, FollowsFrom, IsHandled, ArrivesAt, Lists, ListsFrom, ListsHandled, LosesNone, Offers, OffersTwo}
+use Rattle.gen1_outcomes.specs.Logs.{AllFit, Fits, NotesAll, NotesEntry, place_after, place_past, Agrees, IsLogged}
 use Rattle.gen1_outcomes.specs.Nodes.{AllDone, AreBytes, AreLeft, AreOn, AreToCome, IsSettled, LeadsOn, Notes, Noting, Passes, PassesBy, asked_at}
 use Rattle.gen1_outcomes.proofs.Logs.{entry_keeps}
+use Rattle.gen1_outcomes.proofs.Shifts.{NoneMissed, arrives_by, dropped, dropped-is, follows_arrived, follows_from}
 use Rattle.gen1_outcomes.proofs.Walking.{at, some_node}
 use Rattle.gen1_machine.specs.declared.choice.Choice.{Choice}
 use Rattle.gen1_machine.specs.State.{State}
@@ -34,11 +36,15 @@ use Rattle.gen1_outcomes.specs.declared.middles.Middle.{Middle}
 use Rattle.gen1_outcomes.specs.declared.nodes.Chance.{Chance}
 use Rattle.gen1_outcomes.specs.declared.outcomes.Outcomes.{Outcomes}
 use Rattle.gen1_outcomes.specs.declared.successor.Successor.{Successor}
-use Rattle.gen1_outcomes.specs.Beginning.{have_two_actions}
 use Rattle.gen1_outcomes.specs.Following.{IsBegun, Walk}
-use Rattle.gen1_outcomes.specs.Listing.{KeepsFirst}
-use Rattle.gen1_outcomes.specs.Middles.{PlaysOn}
+use Rattle.gen1_outcomes.specs.Listing.{KeepsFirst, AreThose}
+use Rattle.gen1_outcomes.specs.Middles.{PlaysOn, Arrives, IsAdded, IsAt, Reaches}
 use Rattle.gen1_outcomes.specs.Shares.{Adds}
+use Rattle.gen1_outcomes.specs.declared.beginning.Rest.{Rest}
+use Rattle.gen1_outcomes.specs.declared.middles.Middles.{Middles}
+use Rattle.gen1_outcomes.specs.declared.script.Script.{Script}
+use Rattle.gen1_outcomes.specs.Script.{script_of}
+use Rattle.gen1_outcomes.proofs.Lists.{same_or}
 
 three : (m n : ℕ) → (m < n) ⊎ (m ≡ n) ⊎ (n < m)
 three m n = grind arith
@@ -328,6 +334,14 @@ large_all (e ∷ es) old new all is = large_all es all.0 new all.2 (large_entry 
 not_both : (b : Bool) → b ≡ true → b ≡ false → ⊥
 not_both b is off = cc
 
+-- A way that isn't marked has no search that found nothing.
+pub none_missed : (es : List Entry) (old new : Noting) → NotesAll es old new → new.nodes.too_large ≡ false → NoneMissed es
+none_missed [] old new all fits = tt
+none_missed (Draw look b ∷ es) old new all fits = none_missed es all.0 new all.2 fits
+none_missed (Found test look b ∷ es) old new all fits = none_missed es all.0 new all.2 fits
+none_missed (Missed test ∷ es) old new all fits =
+    absurd (not_both new.nodes.too_large (large_all es all.0 new all.2 (ap (λ (n : Noting). n.nodes.too_large) all.1)) fits)
+
 -- What a log makes of the draws. A stream that goes by them agrees with the log.
 pub record IsNoted (es : List Entry) (old new : Nodes) : Type 0 where
   pub known : AreKnown new
@@ -409,99 +423,289 @@ next_known old new leads known k lt =
           ];
     }
 
--- Before a way: each stream is to come, or a battle of the list has the bytes of one that follows on it.
-pub record IsGoing (w : Walk) (nodes : Nodes) (count : ℕ) (xs : List Successor) : Type 0 where
+-- Before a way: of each stream either it is to come, or something else holds.
+pub record IsGoing (Of : State → Type 0) (Else : State → Stream → Type 0) (nodes : Nodes) : Type 0 where
   pub at : nodes.at ≡ 0
   pub known : AreKnown nodes
-  pub streams : (s : State) → Stands w.start s → AreOffered s w.one w.two → (stream : Stream) → IsStream stream → IsToCome nodes stream ⊎ IsListed s w.one w.two stream count xs
+  pub streams : (s : State) → Of s → (stream : Stream) → IsStream stream → IsToCome nodes stream ⊎ Else s stream
 
 -- After it.
-pub record IsPast (w : Walk) (nodes : Nodes) (count : ℕ) (xs : List Successor) : Type 0 where
+pub record IsPast (Of : State → Type 0) (Else : State → Stream → Type 0) (nodes : Nodes) : Type 0 where
   pub known : AreKnown nodes
-  pub streams : (s : State) → Stands w.start s → AreOffered s w.one w.two → (stream : Stream) → IsStream stream → WaitsAfter nodes stream ⊎ IsListed s w.one w.two stream count xs
+  pub streams : (s : State) → Of s → (stream : Stream) → IsStream stream → WaitsAfter nodes stream ⊎ Else s stream
 
 -- Before the first way.
-pub going_first : (w : Walk) (nodes : Nodes) (count : ℕ) (xs : List Successor) → nodes.at ≡ 0 → nodes.len ≡ 0 → IsGoing w nodes count xs
-going_first w nodes count xs at empty =
+pub going_first : (Of : State → Type 0) (Else : State → Stream → Type 0) (nodes : Nodes) → nodes.at ≡ 0 → nodes.len ≡ 0 → IsGoing Of Else nodes
+going_first Of Else nodes at empty =
     record {
       at = at;
       known = λ k lt. absurd (omega (arith, lt, empty));
-      streams = λ s h o stream is. inl (inl (λ k past lt. absurd (omega (arith, lt, empty))));
+      streams = λ s of stream is. inl (inl (λ k past lt. absurd (omega (arith, lt, empty))));
     }
 
-listed_as : (s : State) (one two : Choice) (stream : Stream) (before count : ℕ) (xs ys : List Successor) → before ≤ count → KeepsFirst before xs ys
-    → IsListed s one two stream before xs → IsListed s one two stream count ys
-listed_as s one two stream before count xs ys more keeps is =
-    record {
-      place = is.place;
-      within = omega (arith, is.within, more);
-      battle = is.battle;
-      follows = is.follows;
-      bytes = λ past. ap joined (keeps is.place past is.within) ∙ is.bytes past;
-    }
-
--- A way is played and added.
-pub past_more : (w : Walk) (middle : Middle) (nodes after : Nodes) (parts : Parts) (c : Chance) (first old mid new : Tally) (xs ys : List Successor)
-    → middle.draws ≡ 0 → IsExact w.options → first.least ≡ 0 → old.least ≡ first.least → nodes.options ≡ w.options → after.too_large ≡ false
-    → PlaysOn w middle nodes after parts → Adds parts c old mid xs ys → KeepsFirst old.count xs ys → new.count ≡ mid.count → IsGoing w nodes old.count xs
-    → IsPast w after new.count ys
-past_more w middle nodes after parts c first old mid new xs ys none exact least stays options fits plays (inl gets) keeps same going =
-    let way = plays.way in
+-- A way is played.
+pub past_way : (Of : State → Type 0) (Else : State → Stream → Type 0) (script : Script) (nodes after : Nodes) (way : IsLogged script (record { left = 0; nodes = nodes }) after)
+    → IsExact nodes.options → after.too_large ≡ false → IsGoing Of Else nodes → IsPast Of (λ s stream. Agrees way.log stream ⊎ Else s stream) after
+past_way Of Else script nodes after way exact fits going =
     let noted =
-    all_noted way.log (record { left = middle.draws; nodes = nodes }) (record { left = way.left; nodes = after }) none going.known (omega (arith, going.at))
-    (subst (λ (o : OutcomeOptions). IsExact o) (sym options) exact) fits way.noted
-    in
-    let more : old.count ≤ new.count =
-    elim gets.there [
-      | inl there ↦ omega (arith, there.1, same)
-      | inr next ↦ omega (arith, next.1, same)
-    ]
+    all_noted way.log (record { left = 0; nodes = nodes }) (record { left = way.left; nodes = after }) refl going.known (omega (arith, going.at)) exact fits way.noted
     in
     record {
       known = noted.known;
-      streams = λ s h o stream is.
-          elim (going.streams s h o stream is) [
+      streams = λ s of stream is.
+          elim (going.streams s of stream is) [
             | inl come ↦
                 elim (noted.to_come stream is come) [
                   | inl goes ↦
                       let fit : AllFit way.log stream 0 = subst (λ (k : ℕ). AllFit way.log stream (place_before (asked_at after) stream k)) going.at (noted.fits stream is some_node goes) in
-                      inr (record {
-                        place = gets.place;
-                        within = omega (arith, gets.within, same);
-                        battle = parts;
-                        follows = plays.leads s h o stream (record { is = is; fit = fit });
-                        bytes = gets.bytes;
-                      })
+                      inr (inl (record { is = is; fit = fit }))
                   | inr left ↦ inl left
                 ]
-            | inr listed ↦ inr (listed_as s w.one w.two stream old.count new.count xs ys more keeps listed)
+            | inr other ↦ inr (inr other)
           ];
     }
-past_more w middle nodes after parts c first old mid new xs ys none exact least stays options fits plays (inr left) keeps same going =
-    let below = left.below in
-    let zero : old.least ≡ 0 = stays ∙ least in
-    absurd (omega (arith, below, ap (λ (n : ℕ). n * c.whole) zero))
+
+-- What holds of the others leads to something else.
+pub past_as : (Of : State → Type 0) (Else Now : State → Stream → Type 0) (nodes : Nodes) → ((s : State) → Of s → (stream : Stream) → IsStream stream → Else s stream → Now s stream)
+    → IsPast Of Else nodes → IsPast Of Now nodes
+past_as Of Else Now nodes now past =
+    record {
+      known = past.known;
+      streams = λ s of stream is.
+          elim (past.streams s of stream is) [
+            | inl left ↦ inl left
+            | inr other ↦ inr (now s of stream is other)
+          ];
+    }
 
 -- The next way, or none.
-pub going_on : (w : Walk) (old new : Nodes) (count : ℕ) (xs : List Successor) → LeadsOn old new
-    → ((bytes : ℕ → ℕ) → AreBytes bytes → AreLeft old bytes → AreToCome new bytes) → IsPast w old count xs → IsGoing w new count xs
-going_on w old new count xs leads to_come past =
+pub going_on : (Of : State → Type 0) (Else : State → Stream → Type 0) (old new : Nodes) → LeadsOn old new
+    → ((bytes : ℕ → ℕ) → AreBytes bytes → AreLeft old bytes → AreToCome new bytes) → IsPast Of Else old → IsGoing Of Else new
+going_on Of Else old new leads to_come past =
     record {
       at = leads.at;
       known = next_known old new leads past.known;
-      streams = λ s h o stream is.
-          elim (past.streams s h o stream is) [
+      streams = λ s of stream is.
+          elim (past.streams s of stream is) [
             | inl left ↦ inl (next_to_come old new stream is leads to_come left)
-            | inr listed ↦ inr listed
+            | inr other ↦ inr other
           ];
     }
 
-pub gone : (w : Walk) (nodes : Nodes) (count : ℕ) (xs : List Successor) → AllDone nodes → IsPast w nodes count xs
-    → (s : State) → Stands w.start s → AreOffered s w.one w.two → ListsEvery s w.one w.two count xs
-gone w nodes count xs done past s h o stream is =
-    elim (past.streams s h o stream is) [
+pub gone : (Of : State → Type 0) (Else : State → Stream → Type 0) (nodes : Nodes) → AllDone nodes → IsPast Of Else nodes
+    → (s : State) → Of s → (stream : Stream) → IsStream stream → Else s stream
+gone Of Else nodes done past s of stream is =
+    elim (past.streams s of stream is) [
       | inl left ↦ absurd (none_left nodes stream some_node is done left)
-      | inr listed ↦ listed
+      | inr other ↦ other
+    ]
+
+-- Lists that become longer.
+
+pub extends_none : (count : ℕ) (xs : List Successor) → Extends count xs count xs
+extends_none count xs = record { more = omega arith; first = λ k past lt. refl }
+
+pub extends_then : (first before count : ℕ) (xs ys zs : List Successor) → Extends first xs before ys → Extends before ys count zs → Extends first xs count zs
+extends_then first before count xs ys zs one then =
+    record {
+      more = omega (arith, one.more, then.more);
+      first = λ k past lt. then.first k past (omega (arith, lt, one.more)) ∙ one.first k past lt;
+    }
+
+pub extends_those : (before count : ℕ) (xs ys : List Successor) → count ≡ before → AreThose xs ys → Extends before xs count ys
+extends_those before count xs ys same those = record { more = omega (arith, same); first = λ k past lt. those k past }
+
+pub lists_as : (Is : Parts → Type 0) (before count : ℕ) (xs ys : List Successor) → Extends before xs count ys → Lists Is before xs → Lists Is count ys
+lists_as Is before count xs ys extends is =
+    record {
+      place = is.place;
+      within = omega (arith, is.within, extends.more);
+      battle = is.battle;
+      is = is.is;
+      bytes = λ past. ap joined (extends.first is.place past is.within) ∙ is.bytes past;
+    }
+
+-- A battle is added.
+pub extends_more : (parts : Parts) (c : Chance) (old mid new : Tally) (xs ys : List Successor) → Adds parts c old mid xs ys → KeepsFirst old.count xs ys → new.count ≡ mid.count
+    → Extends old.count xs new.count ys
+extends_more parts c old mid new xs ys (inl gets) keeps same =
+    record {
+      more = elim gets.there [
+        | inl there ↦ omega (arith, there.1, same)
+        | inr next ↦ omega (arith, next.1, same)
+      ];
+      first = keeps;
+    }
+extends_more parts c old mid new xs ys (inr left) keeps same = record { more = omega (arith, left.count, same); first = keeps }
+
+pub lists_added : (Is : Parts → Type 0) (parts : Parts) (c : Chance) (old mid new : Tally) (xs ys : List Successor) → old.least ≡ 0 → Adds parts c old mid xs ys → new.count ≡ mid.count
+    → Is parts → Lists Is new.count ys
+lists_added Is parts c old mid new xs ys least (inl gets) same is =
+    record { place = gets.place; within = omega (arith, gets.within, same); battle = parts; is = is; bytes = gets.bytes }
+lists_added Is parts c old mid new xs ys least (inr left) same is =
+    let below = left.below in
+    absurd (omega (arith, below, ap (λ (n : ℕ). n * c.whole) least))
+
+-- Of each stream from a position, it is to come or a battle is listed.
+abbrev pub IsGoingFrom : Walk → Middle → Nodes → ℕ → List Successor → Type 0
+IsGoingFrom w middle nodes count xs = IsGoing (Offers w) (λ s stream. Lists (FollowsFrom s w.one w.two middle.bytes middle.rest stream) count xs) nodes
+
+abbrev pub IsPastFrom : Walk → Middle → Nodes → ℕ → List Successor → Type 0
+IsPastFrom w middle nodes count xs = IsPast (Offers w) (λ s stream. Lists (FollowsFrom s w.one w.two middle.bytes middle.rest stream) count xs) nodes
+
+-- A way from there is played and added.
+pub past_more : (w : Walk) (middle : Middle) (nodes after : Nodes) (parts : Parts) (c : Chance) (first old mid new : Tally) (xs ys : List Successor)
+    → IsExact w.options → first.least ≡ 0 → old.least ≡ first.least → nodes.options ≡ w.options → after.too_large ≡ false
+    → PlaysOn w middle nodes after parts → Adds parts c old mid xs ys → KeepsFirst old.count xs ys → new.count ≡ mid.count → IsGoingFrom w middle nodes old.count xs
+    → IsPastFrom w middle after new.count ys
+past_more w middle nodes after parts c first old mid new xs ys exact least stays options fits plays adds keeps same going =
+    let Is = λ (s : State) (stream : Stream) (battle : Parts). FollowsFrom s w.one w.two middle.bytes middle.rest stream battle in
+    past_as (Offers w) (λ s stream. Agrees plays.way.log stream ⊎ Lists (Is s stream) old.count xs) (λ s stream. Lists (Is s stream) new.count ys) after
+    (λ s of stream is other.
+    elim other [
+      | inl agrees ↦
+          lists_added (Is s stream) parts c old mid new xs ys (stays ∙ least) adds same
+          (follows_from s w.one w.two middle.bytes middle.rest plays.way.log parts (plays.leads s of.stands of.offered) stream agrees)
+      | inr listed ↦ lists_as (Is s stream) old.count new.count xs ys (extends_more parts c old mid new xs ys adds keeps same) listed
+    ])
+    (past_way (Offers w) (λ s stream. Lists (Is s stream) old.count xs) (script_of plays.path) nodes after plays.way
+    (subst (λ (o : OutcomeOptions). IsExact o) (sym options) exact) fits going)
+
+-- From the beginning of an update these are battles for every stream.
+pub every_from : (w : Walk) (middle : Middle) (s : State) (count : ℕ) (xs : List Successor) → middle.rest ≡ None → ListsFrom w middle s count xs → ListsEvery s w.one w.two count xs
+every_from w middle s count xs none lists =
+    subst (λ (rest : Option Rest). (stream : Stream) → IsStream stream → Lists (FollowsFrom s w.one w.two middle.bytes rest stream) count xs) none lists
+
+-- Another position with the same bytes and rest.
+arrives_as : (s : State) (one two : Choice) (stream : Stream) (old new : Middle) → new.bytes ≡ old.bytes → new.rest ≡ old.rest
+    → Arrives s one two stream old → Arrives s one two stream new
+arrives_as s one two stream old new bytes rest a =
+    record {
+      rest = a.rest;
+      kept = rest ∙ a.kept;
+      here = a.here;
+      at = subst (λ (x : List ℕ). IsAt s x a.rest a.here) (sym bytes) a.at;
+      on = a.on;
+      rests = a.rests;
+    }
+
+-- A position is added: the turn arrives there, or where it arrived before.
+pub arrives_added : (w : Walk) (s : State) (stream : Stream) (middle : Middle) (old new : Middles) → IsAdded middle old new → Arrives s w.one w.two stream middle
+    → ArrivesAt w s stream new
+arrives_added w s stream middle old new (inl joins) a =
+    record {
+      place = joins.place;
+      within = omega (arith, joins.within, joins.length);
+      arrives = λ past.
+          let gets = joins.here past in
+          let alike = joins.alike past in
+          arrives_as s w.one w.two stream middle (get_or new.list joins.place past) (gets.bytes ∙ alike.bytes) (gets.rest ∙ alike.rest) a;
+    }
+arrives_added w s stream middle old new (inr put) a =
+    record {
+      place = old.len;
+      within = omega (arith, put.length);
+      arrives = λ past. subst (λ (m : Middle). Arrives s w.one w.two stream m) (sym (put.here past)) a;
+    }
+
+pub arrives_still : (w : Walk) (s : State) (stream : Stream) (middle : Middle) (old new : Middles) → IsAdded middle old new → ArrivesAt w s stream old → ArrivesAt w s stream new
+arrives_still w s stream middle old new (inl joins) at =
+    record {
+      place = at.place;
+      within = omega (arith, at.within, joins.length);
+      arrives = λ past.
+          elim (same_or at.place joins.place) [
+            | inl same ↦
+                let gets = joins.here past in
+                let a = subst (λ (k : ℕ). Arrives s w.one w.two stream (get_or old.list k past)) same (at.arrives past) in
+                subst (λ (k : ℕ). Arrives s w.one w.two stream (get_or new.list k past)) (sym same)
+                (arrives_as s w.one w.two stream (get_or old.list joins.place past) (get_or new.list joins.place past) gets.bytes gets.rest a)
+            | inr other ↦ subst (λ (m : Middle). Arrives s w.one w.two stream m) (sym (joins.others at.place past other)) (at.arrives past)
+          ];
+    }
+arrives_still w s stream middle old new (inr put) at =
+    record {
+      place = at.place;
+      within = omega (arith, at.within, put.length);
+      arrives = λ past. subst (λ (m : Middle). Arrives s w.one w.two stream m) (sym (put.before at.place past at.within)) (at.arrives past);
+    }
+
+-- It has one for every stream from each of the first positions.
+abbrev pub ListsFromEach : Walk → ℕ → List Middle → ℕ → List Successor → Type 0
+ListsFromEach w first middles count xs =
+    (k : ℕ) → (past : Middle) → k < first → (s : State) → Offers w s → ListsFrom w (get_or middles k past) s count xs
+
+-- So where battles for every stream are listed from a position, one is for a stream on which the turn arrives there.
+some_middle : Middle
+some_middle =
+    record {
+      bytes = [];
+      rest = None;
+      hash = 0;
+      draws = 0;
+      chance = record { num = 1; whole = 1; positive = omega arith };
+      ways = 1;
+      few = omega arith;
+      some = omega arith;
+    }
+
+pub listed_from : (w : Walk) (s : State) (stream : Stream) (middles : Middles) (count : ℕ) (xs : List Successor) → OffersTwo w s → IsStream stream
+    → ListsFromEach w middles.len middles.list count xs → ArrivesAt w s stream middles → IsListed s w.one w.two stream count xs
+listed_from w s stream middles count xs of is each at =
+    let past = some_middle in
+    let middle = get_or middles.list at.place past in
+    let a = at.arrives past in
+    let l = each at.place past at.within s of.offers (dropped a.here.drawn stream) (dropped-is a.here.drawn stream is) in
+    record {
+      place = l.place;
+      within = l.within;
+      battle = l.battle;
+      is = follows_arrived w s stream middle l.battle of a l.is;
+      bytes = l.bytes;
+    }
+
+-- After all kept positions were played on from, each stream that is handled has a battle in the list.
+pub listed_all : (w : Walk) (middles : Middles) (before count : ℕ) (xs ys : List Successor) → ListsFromEach w middles.len middles.list count ys → Extends before xs count ys
+    → ListsHandled w middles before xs count ys
+listed_all w middles before count xs ys each extends s of stream is (inl at) = listed_from w s stream middles count ys of is each at
+listed_all w middles before count xs ys each extends s of stream is (inr listed) = lists_as _ before count xs ys extends listed
+
+-- Of each stream in the first part, it is to come, or it is handled.
+abbrev pub IsGoingIn : Walk → Nodes → Middles → ℕ → List Successor → Type 0
+IsGoingIn w nodes middles count xs = IsGoing (OffersTwo w) (λ s stream. IsHandled w s stream middles count xs) nodes
+
+abbrev pub IsPastIn : Walk → Nodes → Middles → ℕ → List Successor → Type 0
+IsPastIn w nodes middles count xs = IsPast (OffersTwo w) (λ s stream. IsHandled w s stream middles count xs) nodes
+
+-- A way to a position is played, and the position is added, after room was made for it.
+pub past_kept : (w : Walk) (nodes after : Nodes) (middle : Middle) (old room new : Middles) (first before count : ℕ) (xs ys zs : List Successor)
+    → IsExact w.options → nodes.options ≡ w.options → after.too_large ≡ false → Reaches w nodes after middle → LosesNone w old first xs room before ys
+    → IsAdded middle room new → Extends before ys count zs → IsGoingIn w nodes old first xs → IsPastIn w after new count zs
+past_kept w nodes after middle old room new first before count xs ys zs exact options fits reaches loses added extends going =
+    past_as (OffersTwo w) (λ s stream. Agrees reaches.way.log stream ⊎ IsHandled w s stream old first xs) (λ s stream. IsHandled w s stream new count zs) after
+    (λ s of stream is other.
+    elim other [
+      | inl agrees ↦ inl (arrives_added w s stream middle room new added (arrives_by w nodes after middle reaches s of stream agrees))
+      | inr handled ↦ elim (loses s of stream is handled) [
+        | inl at ↦ inl (arrives_still w s stream middle room new added at)
+        | inr listed ↦ inr (lists_as _ before count ys zs extends listed)
+      ]
+    ])
+    (past_way (OffersTwo w) (λ s stream. IsHandled w s stream old first xs) (script_of reaches.path) nodes after reaches.way
+    (subst (λ (o : OutcomeOptions). IsExact o) (sym options) exact) fits going)
+
+-- From each of the first positions, and then from one more.
+pub each_none : (w : Walk) (middles : List Middle) (count : ℕ) (xs : List Successor) → ListsFromEach w 0 middles count xs
+each_none w middles count xs k past lt = absurd (omega (arith, lt))
+
+pub each_more : (w : Walk) (middles : List Middle) (first before count : ℕ) (d : Middle) (xs ys : List Successor) → first < length middles → ListsFromEach w first middles before xs
+    → Extends before xs count ys → ((s : State) → Offers w s → ListsFrom w (get_or middles first d) s count ys) → ListsFromEach w (first + 1) middles count ys
+each_more w middles first before count d xs ys within each extends one k past lt s of =
+    elim (same_or k first) [
+      | inl same ↦
+          let here : get_or middles first d ≡ get_or middles k past = get_or_default middles first d past within ∙ ap (λ (j : ℕ). get_or middles j past) (sym same) in
+          subst (λ (m : Middle). ListsFrom w m s count ys) here (one s of)
+      | inr other ↦ λ stream is. lists_as _ before count xs ys extends (each k past (omega (arith, lt, other)) s of stream is)
     ]
 
 -- A result that has so many outcomes.
@@ -510,19 +714,16 @@ pub finished_every : (s : State) (one two : Choice) (count : ℕ) (xs : List Suc
 finished_every s one two count xs (Ok o) every e = subst (λ (n : ℕ). ListsEvery s one two n xs) (sym e) every
 finished_every s one two count xs (Err fault) every e = tt
 
--- An update in two stages is none in one.
-pub two_stages : (b c : Bool) (P : Type 0) → b ≡ c → b ≡ true → c ≡ false → P
-two_stages b c P same is off = absurd (not_both c (sym same ∙ is) off)
-
 -- What a walk lists for every stream it lists of the pair that it was made of.
 pub every_walk : (s : State) (one two : Choice) (options : OutcomeOptions) (battle : Parts) (w : Walk) → IsBegun battle one two options w → Stands battle s
-    → AreOffered s one two → have_two_actions one two s.field ≡ false → IsExact options → (xs : List Successor) (r : Result Outcomes OutcomesFault)
-    → (Stands w.start s → AreOffered s w.one w.two → have_two_actions w.one w.two s.field ≡ false → IsExact w.options → IfOk r (λ o. ListsEvery s w.one w.two o.count xs))
+    → AreOffered s one two → IsExact options → (xs : List Successor) (r : Result Outcomes OutcomesFault)
+    → (Offers w s → IsExact w.options → IfOk r (λ o. ListsEvery s w.one w.two o.count xs))
     → IfOk r (λ o. ListsEvery s one two o.count xs)
-every_walk s one two options battle w is stands offered stage exact xs r all =
-    subst (λ (a : Choice). AreOffered s a two → have_two_actions a two s.field ≡ false → IfOk r (λ o. ListsEvery s a two o.count xs)) is.one
-    (subst (λ (b : Choice). AreOffered s w.one b → have_two_actions w.one b s.field ≡ false → IfOk r (λ o. ListsEvery s w.one b o.count xs)) is.two
-    (λ o off. all (subst (λ (p : Parts). Stands p s) (sym is.start) stands) o off (subst (λ (m : OutcomeOptions). IsExact m) (sym is.options) exact))) offered stage
+every_walk s one two options battle w is stands offered exact xs r all =
+    subst (λ (a : Choice). AreOffered s a two → IfOk r (λ o. ListsEvery s a two o.count xs)) is.one
+    (subst (λ (b : Choice). AreOffered s w.one b → IfOk r (λ o. ListsEvery s w.one b o.count xs)) is.two
+    (λ o.
+    all (record { stands = subst (λ (p : Parts). Stands p s) (sym is.start) stands; offered = o }) (subst (λ (m : OutcomeOptions). IsExact m) (sym is.options) exact))) offered
 
 pub on_ok_of : (r : Result (Unit {0}) OutcomesFault) (P : Type 0) → P → OnOk r P
 on_ok_of (Ok done) P p = p

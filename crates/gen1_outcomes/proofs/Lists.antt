@@ -18,7 +18,7 @@ use Rattle.gen1_outcomes.specs.declared.middles.Middles.{Middles}
 use Rattle.gen1_outcomes.specs.Middles.{Gets, GoOnAlike, Joins}
 use Rattle.gen1_outcomes.specs.Listing.{AreThose, AreThoseOr, EachFollows, FollowsBy, KeepsFirst, StillFollow, battle_at}
 
-same_or : (m n : ℕ) → (m ≡ n) ⊎ (m ≢ n)
+pub same_or : (m n : ℕ) → (m ≡ n) ⊎ (m ≢ n)
 same_or m n = grind arith
 
 -- The same battles are those from before.

@@ -20,25 +20,6 @@ drawn_more path list at d inside there before k none lt =
       | inr ne ↦ get_or-set_other path at k (get_or list at d).byte 0 ne ∙ before k none (omega (arith, ne, lt))
     ]
 
--- A byte is written that stays apart from those before.
-pub kept_first : (path : List ℕ) (at v k w : ℕ) → k < at → get_or path k 0 ≡ w → get_or (set path at v) k 0 ≡ w
-kept_first path at v k w lt e = let ne : k ≢ at = omega (arith, lt) in get_or-set_other path at k v 0 ne ∙ e
-
--- The same for a path that has other bytes before them.
-pub further_more : (path : List ℕ) (list : List Node) (draws at : ℕ) (d : Node) → draws + at < length path → at < length list
-    → ((k : ℕ) (past : Node) → k < at → get_or path (draws + k) 0 ≡ (get_or list k past).byte)
-    → (k : ℕ) (past : Node) → k < at + 1 → get_or (set path (draws + at) (get_or list at d).byte) (draws + k) 0 ≡ (get_or list k past).byte
-further_more path list draws at d inside there before k past lt =
-    elim (same_or k at) [
-      | inl e ↦
-          ap (λ (j : ℕ). get_or (set path (draws + at) (get_or list at d).byte) (draws + j) 0) e
-          ∙ get_or-set_same path (draws + at) (get_or list at d).byte 0 inside
-          ∙ ap (λ (n : Node). n.byte) (get_or_default list at d past there ∙ sym (ap (λ (j : ℕ). get_or list j past) e))
-      | inr ne ↦
-          let apart : draws + k ≢ draws + at = omega (arith, ne) in
-          get_or-set_other path (draws + at) (draws + k) (get_or list at d).byte 0 apart ∙ before k past (omega (arith, ne, lt))
-    ]
-
 -- A draw is read after those before it.
 pub read_more : (nodes : List Node) (draws : List PlainDraw) (at : ℕ) (node : Node) (d : PlainDraw) → at < length nodes → at < length draws → ArePlain at nodes draws
     → IsPlain node (get_or draws at d) → ArePlain (at + 1) (set nodes at node) draws

@@ -1,8 +1,11 @@
 -- Words whose bits are set at equal distances.
-use Rattle.std.proofs.Common.{◌≡◌, ◌≢◌, ℕ, zero, suc, ◌*◌, ◌%◌, ◌<◌, ◌^◌, Bool, true, false, ◌==◌, [], ◌∷◌, cond, min, get_or, refl, ap, ◌∙◌, ◌⊎◌, inl, inr, arith, nat_eq}
+use Rattle.std.proofs.Common.{◌≡◌, ◌≢◌, ℕ, zero, suc, ◌*◌, ◌%◌, ◌<◌, ◌^◌, Bool, true, false, ◌==◌, [], ◌∷◌, cond, max, min, nat_lt, get_or, refl, ap, ap₂, sym, ◌∙◌, ◌+◌, ◌-◌, ◌⊎◌, inl, inr, arith, nat_eq}
 use Rattle.std.specs.Int.{bit_at}
-use Rattle.gen1_outcomes.proofs.Sets.{each_word, on_side}
+use Rattle.std.specs.Int.RustNames.{bit_and, bit_or}
+use Rattle.gen1_rolls.specs.Looks.{rotated_right_1}
+use Rattle.gen1_outcomes.proofs.Sets.{each_word, on_side, same_test, word_bits}
 use Rattle.std.proofs.lemmas.Bool.Decides.{nat_tests}
+use Rattle.std.proofs.lemmas.Nat.Bits.{bit_at_and, bit_at_or}
 
 -- A test that passes below a number, by trying each.
 upto : ℕ → (ℕ → Bool) → Bool
@@ -64,6 +67,42 @@ eighth (suc (suc (suc (suc (suc zero))))) i lt less = at 2314885530818453536 8 5
 eighth (suc (suc (suc (suc (suc (suc zero)))))) i lt less = at 4629771061636907072 8 6 refl i less
 eighth (suc (suc (suc (suc (suc (suc (suc zero))))))) i lt less = at 9259542123273814144 8 7 refl i less
 eighth (suc (suc (suc (suc (suc (suc (suc (suc r)))))))) i lt less = absurd (omega (arith, lt))
+
+even_places : (i : ℕ) → i < 64 → bit_at 6148914691236517205 i ≡ cond (0 == i % 2) 1 0
+unfolding upto
+even_places i lt = at 6148914691236517205 2 0 refl i lt
+
+odd_places : (i : ℕ) → i < 64 → bit_at 12297829382473034410 i ≡ cond (1 == i % 2) 1 0
+unfolding upto
+odd_places i lt = at 12297829382473034410 2 1 refl i lt
+
+-- A word of two masks of ones, one for its even bytes and one for its odd bytes.
+masked_bit : (m n x y u v i : ℕ) → u ≡ cond (0 == i % 2) 1 0 → v ≡ cond (1 == i % 2) 1 0 → x ≡ cond (nat_lt i m) 1 0 → y ≡ cond (nat_lt i n) 1 0
+    → max (min x u) (min y v) ≡ cond (nat_lt i (cond (0 == i % 2) m n)) 1 0
+masked_bit m n x y u v i e f g h = parity (i % 2) refl
+  where
+    parity : (r : ℕ) → r ≡ i % 2 → max (min x u) (min y v) ≡ cond (nat_lt i (cond (0 == i % 2) m n)) 1 0
+    parity zero is = grind (arith, is, e, f, g, h)
+    parity (suc zero) is = grind (arith, is, e, f, g, h)
+    parity (suc (suc r)) is = absurd (omega (arith, is))
+
+pub halves_has : (even odd bound least i : ℕ) → i < 64 → even ≡ min (bound - least) 32 → odd ≡ min (bound - (least + 128)) 32
+    → bit_at (bit_or (bit_and (2 ^ min (2 * even) 64 - 1) 6148914691236517205) (bit_and (2 ^ min (2 * odd) 64 - 1) 12297829382473034410)) i
+    ≡ cond (nat_lt (least + rotated_right_1 i) bound) 1 0
+halves_has even odd bound least i lt e f =
+    bit_at_or _ _ i
+    ∙ ap₂ (λ (x y : ℕ). max x y) (bit_at_and _ _ i) (bit_at_and _ _ i)
+    ∙ masked_bit (2 * even) (2 * odd) _ _ _ _ i (even_places i lt) (odd_places i lt) (word_bits (2 * even) i lt) (word_bits (2 * odd) i lt)
+    ∙ ap (λ (b : Bool). cond b 1 0) (by (i % 2) refl)
+  where
+    by : (r : ℕ) → r ≡ i % 2 → nat_lt i (cond (0 == i % 2) (2 * even) (2 * odd)) ≡ nat_lt (least + rotated_right_1 i) bound
+    by zero is =
+        ap (λ (n : ℕ). nat_lt i (cond (0 == n) (2 * even) (2 * odd))) (sym is)
+        ∙ same_test i (2 * even) (least + rotated_right_1 i) bound (λ h. omega (arith, h, e, is, lt)) (λ h. omega (arith, h, e, is, lt))
+    by (suc zero) is =
+        ap (λ (n : ℕ). nat_lt i (cond (0 == n) (2 * even) (2 * odd))) (sym is)
+        ∙ same_test i (2 * odd) (least + rotated_right_1 i) bound (λ h. omega (arith, h, f, is, lt)) (λ h. omega (arith, h, f, is, lt))
+    by (suc (suc r)) is = absurd (omega (arith, is))
 
 -- The same word four times.
 pub repeated_has : (word i j : ℕ) → i < 4 → bit_at (get_or (word ∷ word ∷ word ∷ word ∷ []) i 0) j ≡ bit_at word j

@@ -3,7 +3,7 @@ use Rattle.std.proofs.Common.{◌≡◌, ◌≢◌, ℕ, zero, suc, ◌+◌, ◌
 use Rattle.std.specs.Int.{bit_at, bit_not, w64}
 use Rattle.std.specs.Int.RustNames.{bit_and, bit_or}
 use Rattle.gen1_rolls.specs.declared.look.Look.{Look}
-use Rattle.gen1_rolls.specs.Looks.{rotated_left_3}
+use Rattle.gen1_rolls.specs.Looks.{rotated_left_3, rotated_right_1}
 use Rattle.gen1_outcomes.specs.declared.byte_set.ByteSet.{ByteSet}
 use Rattle.gen1_outcomes.specs.Bytes.{bits_set, has, size}
 use Rattle.gen1_outcomes.specs.Classes.{alike_in}
@@ -155,7 +155,7 @@ lt_false : (a b : ℕ) → b ≤ a → nat_lt a b ≡ false
 lt_false a b h = grind (arith, nat_tests)
 
 -- One test decides as another.
-same_test : (a b c d : ℕ) → (a < b → c < d) → (b ≤ a → d ≤ c) → nat_lt a b ≡ nat_lt c d
+pub same_test : (a b c d : ℕ) → (a < b → c < d) → (b ≤ a → d ≤ c) → nat_lt a b ≡ nat_lt c d
 same_test a b c d on off =
     elim (true_or (nat_lt a b)) [
       | inl e ↦ e ∙ sym (lt_true c d (on (lt_of a b e)))
@@ -185,7 +185,7 @@ pub ones_few : (n : ℕ) → n < 64 → 1 * 2 ^ n % 18446744073709551616 - 1 ≡
 ones_few n lt = ap (λ (m : ℕ). m - 1) (pow_small n lt) ∙ sym (ones_upto n (omega (arith, lt)))
 
 -- Bits of a number of at most 64 ones.
-word_bits : (n i : ℕ) → i < 64 → bit_at (2 ^ min n 64 - 1) i ≡ cond (nat_lt i n) 1 0
+pub word_bits : (n i : ℕ) → i < 64 → bit_at (2 ^ min n 64 - 1) i ≡ cond (nat_lt i n) 1 0
 word_bits n i lt =
     ones_bits (min n 64) i ∙ ap (λ (b : Bool). cond b 1 0) (same_test i (min n 64) i n (λ h. omega (arith, h)) (λ h. omega (arith, h, lt)))
 
@@ -249,6 +249,23 @@ rotated_has bound w x y z b lt h i j k =
     (halves_bit bound 0 w (b % 64) (omega arith) low h) (halves_bit bound 1 x (b % 64) (omega arith) low i) (halves_bit bound 2 y (b % 64) (omega arith) low j)
     (halves_bit bound 3 z (b % 64) (omega arith) low k) (b / 64) (omega (arith, lt))
     ∙ ap (λ (v : ℕ). cond (nat_lt (rotated_left_3 v) bound) 1 0) sum
+
+-- A set whose words have the bytes from one factor up to another of a set.
+abbrev pub Between : ℕ → ℕ → ℕ → ℕ → ℕ → Type 0
+Between first next least word w =
+    (i : ℕ) → i < 64 → bit_at w i ≡ min (bit_at word i) (cond (nat_lt (least + rotated_right_1 i) next) 1 0) - cond (nat_lt (least + rotated_right_1 i) first) 1 0
+
+pub between_has : (first next : ℕ) (words : List ℕ) (w x y z b : ℕ) → b < 256 → Between first next 0 (get_or words 0 0) w → Between first next 32 (get_or words 1 0) x
+    → Between first next 64 (get_or words 2 0) y → Between first next 96 (get_or words 3 0) z
+    → bit_at (get_or (words_of w x y z) (b / 64) 0) (b % 64)
+    ≡ min (bit_at (get_or words (b / 64) 0) (b % 64)) (cond (nat_lt (rotated_right_1 b) next) 1 0) - cond (nat_lt (rotated_right_1 b) first) 1 0
+between_has first next words w x y z b lt h i j k =
+    let low : b % 64 < 64 = omega arith in
+    let sum : 32 * (b / 64) + rotated_right_1 (b % 64) ≡ rotated_right_1 b = omega arith in
+    each_word w x y z (λ (n v : ℕ). bit_at v (b % 64)
+    ≡ min (bit_at (get_or words n 0) (b % 64)) (cond (nat_lt (32 * n + rotated_right_1 (b % 64)) next) 1 0) - cond (nat_lt (32 * n + rotated_right_1 (b % 64)) first) 1 0)
+    (h (b % 64) low) (i (b % 64) low) (j (b % 64) low) (k (b % 64) low) (b / 64) (omega (arith, lt))
+    ∙ ap (λ (v : ℕ). min (bit_at (get_or words (b / 64) 0) (b % 64)) (cond (nat_lt v next) 1 0) - cond (nat_lt v first) 1 0) sum
 
 -- The digits of a word that are set, one by one.
 shifted : (n a k : ℕ) → sum_by (bit_at n) (range_with_len (a + 1) k) ≡ sum_by (bit_at (n / 2)) (range_with_len a k)

@@ -1,6 +1,11 @@
 -- How one way leads to the next, with no bytes for draws lost between them.
-use Rattle.std.proofs.Common.{◌≡◌, ◌≢◌, ℕ, Bool, Some, false, not, true, ◌⊎◌, inl, inr, refl, ◌+◌, ◌*◌, ◌/◌, ◌%◌, ◌-◌, ◌<◌, ◌≤◌, List, [], cond, length, lit<, get_or, get_or-set_other, get_or-set_same, set, ap, subst, sym, ◌∙◌, arith}
-use Rattle.std.proofs.Math.Nat.{mul_assoc, mul_comm}
+use Rattle.std.proofs.Common.{◌≡◌, ◌≢◌, ℕ, Bool, Some, false, not, true, ◌⊎◌, inl, inr, refl, ◌+◌, ◌*◌, ◌/◌, ◌%◌, ◌-◌, ◌<◌, ◌≤◌, ◌^◌, zero, suc, max, List, [], cond, length, lit<, get_or, get_or-set_other, get_or-set_same, set, ap, subst, sym, ◌∙◌, arith}
+use Rattle.std.proofs.Math.Nat.{div-div-eq-div-mul, mul_assoc, mul_comm, pow-succ'}
+use Rattle.std.proofs.lemmas.Nat.{le_or_r, or_lt}
+use Rattle.std.proofs.lemmas.Nat.Bits.{bit_at-suc, bit_at-trailing_zeros, bit_at_lowest, bit_at_or}
+use Rattle.std.specs.Int.{bit_at, trailing_zeros, w16}
+use Rattle.std.specs.Int.RustNames.{bit_or}
+use Rattle.gen1_outcomes.proofs.Parts.{moved}
 use Rattle.std.proofs.lemmas.List.{get_or_default, length-set}
 use Rattle.gen1_rolls.specs.declared.look.Look.TheVariants.{Below}
 use Rattle.gen1_layout.specs.Parts.{Parts}
@@ -17,9 +22,9 @@ use Rattle.gen1_outcomes.specs.Nodes.{AllDone, AreBytes, AreLeft, AreOn, AreToCo
 use Rattle.gen1_outcomes.specs.Plain.{ArePlain, EndsWith, GoesOnTo}
 
 pub leads_on : (old new : Nodes) (list : List Node) (len : ℕ) (node : Node) → new.list ≡ set list (len - 1) node → new.len ≡ len → new.at ≡ 0 → new.asked ≡ old.asked → new.options ≡ old.options
-    → list ≡ old.list → len ≤ old.len → 0 < len → len ≤ length list → (d : Node) → GoesOn (get_or list (len - 1) d) node
+    → list ≡ old.list → len ≤ old.len → 0 < len → len ≤ length list → ((none : Node) → GoesOn (get_or list (len - 1) none) node)
     → ((k : ℕ) (none : Node) → len ≤ k → k < old.len → IsDone (get_or old.list k none)) → LeadsOn old new
-leads_on old new list len node is same_len first asked options same shorter some within d goes done =
+leads_on old new list len node is same_len first asked options same shorter some within goes done =
     let inside : len - 1 < length list = omega arith in
     record {
       place = len - 1;
@@ -36,7 +41,7 @@ leads_on old new list len node is same_len first asked options same shorter some
           sym (ap (λ (l : List Node). get_or l (len - 1) none) is ∙ get_or-set_same list (len - 1) node none inside)
           in
           let old_is : get_or list (len - 1) none ≡ get_or old.list (len - 1) none = ap (λ (l : List Node). get_or l (len - 1) none) same in
-          subst (λ (y : Node). GoesOn (get_or old.list (len - 1) none) y) new_is (subst (λ (x : Node). GoesOn x node) (get_or_default list (len - 1) d none inside ∙ old_is) goes);
+          subst (λ (y : Node). GoesOn (get_or old.list (len - 1) none) y) new_is (subst (λ (x : Node). GoesOn x node) old_is (goes none));
       after = λ k none more less. done k none (omega (arith, more)) less;
       long = omega (arith, inside, same_len, ap length is ∙ length-set list (len - 1) node);
     }
@@ -58,14 +63,40 @@ goes_past nodes next c old true parts events is going leads done plays =
 goes_past nodes next c old false parts events is going leads done plays =
     (nodes, is, record { start = refl; one = refl; two = refl; options = refl; going = going; next = inr (refl, done refl) }, plays)
 
--- Halves are in the same proportion.
-pub halved : (n t w c : ℕ) → n * t ≡ w * c → n % 2 ≡ 0 → w % 2 ≡ 0 → n / 2 * t ≡ w / 2 * c
-halved n t w c e even other =
-    let two : n ≡ 2 * (n / 2) = omega (arith, even) in
-    let half : w ≡ 2 * (w / 2) = omega (arith, other) in
-    let left : n * t ≡ 2 * (n / 2 * t) = ap (λ (x : ℕ). x * t) two ∙ mul_assoc 2 (n / 2) t in
-    let right : w * c ≡ 2 * (w / 2 * c) = ap (λ (x : ℕ). x * c) half ∙ mul_assoc 2 (w / 2) c in
-    omega (arith, e, left, right)
+-- A number whose lowest bits are 0 is a multiple of a power of 2.
+is_multiple : (k n : ℕ) → ((i : ℕ) → i < k → bit_at n i ≡ 0) → n / 2 ^ k * 2 ^ k ≡ n
+is_multiple zero n none = omega arith
+is_multiple (suc k) n none =
+    let even : n % 2 ≡ 0 = sym (bit_at_lowest n) ∙ none 0 (omega arith) in
+    let half : n / 2 / 2 ^ k * 2 ^ k ≡ n / 2 = is_multiple k (n / 2) (λ i lt. sym (bit_at-suc n i) ∙ none (suc i) (omega (arith, lt))) in
+    let power : 2 ^ suc k ≡ 2 * 2 ^ k = pow-succ' 2 k in
+    ap (λ (m : ℕ). n / m * 2 ^ suc k) power ∙ ap (λ (m : ℕ). m * 2 ^ suc k) (sym (div-div-eq-div-mul n 2 (2 ^ k)))
+    ∙ ap (λ (m : ℕ). n / 2 / 2 ^ k * m) power ∙ moved (n / 2 / 2 ^ k) 2 (2 ^ k) ∙ ap (λ (m : ℕ). 2 * m) half ∙ omega (arith, even)
+
+-- What two numbers of 16 bits are without the factors of 2 that they share.
+pub record Shares (a b twos : ℕ) : Type 0 where
+  pub few : twos < 16
+  pub positive : 0 < b / 2 ^ twos
+  pub exact : a / 2 ^ twos * b ≡ b / 2 ^ twos * a
+
+pub shares_twos : (a b : ℕ) → 0 < b → a < 65536 → b < 65536 → Shares a b (trailing_zeros w16 (bit_or a b))
+shares_twos a b some first second =
+    let both = bit_or a b in
+    let more : b ≤ both = le_or_r a b in
+    let found = bit_at-trailing_zeros w16 both (omega (arith, some, more)) (or_lt 16 a b first second) in
+    let twos = trailing_zeros w16 both in
+    let neither : (i : ℕ) → i < twos → max (bit_at a i) (bit_at b i) ≡ 0 = λ i lt. sym (bit_at_or a b i) ∙ found.2 i lt in
+    let one : a / 2 ^ twos * 2 ^ twos ≡ a = is_multiple twos a (λ i lt. omega (arith, neither i lt)) in
+    let other : b / 2 ^ twos * 2 ^ twos ≡ b = is_multiple twos b (λ i lt. omega (arith, neither i lt)) in
+    record {
+      few = found.0;
+      positive = some_part (b / 2 ^ twos) (2 ^ twos) b some other;
+      exact = ap (λ (m : ℕ). a / 2 ^ twos * m) (sym other) ∙ moved (a / 2 ^ twos) (b / 2 ^ twos) (2 ^ twos) ∙ ap (λ (m : ℕ). b / 2 ^ twos * m) one;
+    }
+  where
+    some_part : (x p n : ℕ) → 0 < n → x * p ≡ n → 0 < x
+    some_part zero p n some is = absurd (omega (arith, some, is))
+    some_part (suc x) p n some is = omega arith
 
 -- Products of two fractions.
 pub crossed : (a b c d : ℕ) → a * b * (c * d) ≡ a * c * (b * d)

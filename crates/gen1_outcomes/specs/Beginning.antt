@@ -1,5 +1,5 @@
--- Turns of two actions, and where a turn is after the first of them (docs/MECHANICS.md, "Order of a turn").
-use Rattle.std.specs.Prelude.{Bool, [], false, true, ℕ, ◌&&◌, ◌∷◌, ◌≡◌}
+-- Turns of two actions, where a turn is after the first of them, and the rest of the update (docs/MECHANICS.md, "Order of a turn").
+use Rattle.std.specs.Prelude.{Bool, [], false, true, ℕ, ◌&&◌, ◌∷◌, ◌≡◌, if◌then◌else◌}
 use Rattle.gen1_rolls.specs.Draws.{Drawing, Ref, Since, Source, StandsIn}
 use Rattle.gen1_rolls.specs.Streams.{IsStream}
 use Rattle.gen1_machine.specs.declared.choice.Choice.{Choice}
@@ -11,14 +11,17 @@ use Rattle.gen1_machine.specs.declared.terms.Request.{Request}
 use Rattle.gen1_machine.specs.declared.terms.Request.TheVariants as requests
 use Rattle.gen1_machine.specs.Conditions.{without_flinch}
 use Rattle.gen1_machine.specs.Picks.{pick_in}
+use Rattle.gen1_machine.specs.Plans.{FitsPick, Plan}
 use Rattle.gen1_machine.specs.Progress.{Phase, Progress, on_conditions}
 use Rattle.gen1_machine.specs.Ruling.{Ruling, ruling_of}
 use Rattle.gen1_machine.specs.Sides.{other}
-use Rattle.gen1_machine.specs.State.{Field, State, request_of}
+use Rattle.gen1_machine.specs.State.{Field, State, Terms, request_of}
+use Rattle.gen1_machine.specs.Step.{close_update}
 use Rattle.gen1_machine.specs.Turn.{Acts, Suffers, do_parts, is_cut, of_side, set_picked, turn}
 use Rattle.gen1_machine.specs.TurnOrder.{in_order}
 use Rattle.gen1_layout.specs.Parts.{Parts}
 use Rattle.gen1_layout.specs.Within.{Setting, Stands, Within, setting_of}
+use Rattle.gen1_hits.specs.Planned.{Follows}
 use Rattle.gen1_switching.specs.Updates.{Plays, drawing_on}
 use Rattle.gen1_outcomes.specs.declared.beginning.Rest.{Rest}
 
@@ -47,10 +50,24 @@ picked one two p = set_picked Two two (set_picked One one (unflinched p))
 abbrev pub second_action : Ruling → Side → Pick → Phase
 second_action r s pick = do_parts r (Acts s pick ∷ Suffers s ∷ [])
 
--- A turn is played up to its second action. If it is cut, what is shown is the whole turn; else it isn't cut there, and goes on by the second action.
+-- The rest of an update from there: its second action, and its close. An update whose turn was cut before is closed already.
+abbrev pub rest_of : Rest → Ruling → Phase
+rest_of rest r p = if rest.is_cut then p else close_update r (second_action r rest.second rest.pick p)
+
+-- A turn that isn't cut is before its second action, which fits what its side plans, and which is skipped or not.
+pub record IsReady (rest : Rest) (terms : Terms) (p : Progress) : Type 0 where
+  pub skips : p.skips ≡ rest.skips
+  pub uncut : is_cut p ≡ false
+  pub going : p.stopped ≡ false
+  pub plan : Side → Plan
+  pub fits : FitsPick rest.pick (plan rest.second)
+  pub follows : Follows terms plan p
+
+-- A turn is played up to its second action. If it is cut, what is shown is the whole update; else it isn't cut there, and the second
+-- action follows.
 pub record GoesOn (rest : Rest) (r : Ruling) (one two : Pick) (here whole : Progress) : Type 0 where
   pub skips : here.skips ≡ rest.skips
-  pub cut : rest.is_cut ≡ true → here ≡ whole
+  pub cut : rest.is_cut ≡ true → here ≡ close_update r whole
   pub uncut : rest.is_cut ≡ false → is_cut here ≡ false
   pub left : rest.is_cut ≡ false → whole ≡ second_action r rest.second (of_side rest.second one two) here
 
@@ -62,6 +79,10 @@ pub record Begins {A : Type 0} (d : Drawing A) (source : Source A) (g : Setting)
   pub drawn : ℕ
   pub first : (begins : Side → Phase) → in_order begins (picked one two p) ≡ begins (other rest.second) (record (picked one two p) { drawn = drawn })
   pub goes_on : GoesOn rest (ruling_of g.terms) one two here whole
+  pub on : here.stream ≡ source.stream
+  pub ready : rest.is_cut ≡ false → IsReady rest g.terms here
+  pub pick : rest.pick ≡ of_side rest.second one two
+  pub rests : close_update (ruling_of g.terms) whole ≡ rest_of rest (ruling_of g.terms) here
 
 -- Code with draws begins such a turn, with draws from any place of any stream.
 abbrev pub BeginsTurn : {A : Type 0} → Drawing A → Ref A → Ref Parts → Choice → Choice → Rest → Type 0
@@ -71,3 +92,10 @@ BeginsTurn d random battle one two rest =
     → let p = drawing_on since.source.stream drawn s in
     Begins d since.source (setting_of s) battle.exit.now random.exit.now rest (pick_in j One (unflinched p).field) (pick_in k Two (unflinched p).field) p
     (turn (ruling_of s.terms) one two p)
+
+-- Code with draws plays the rest of an update from there, with draws from any place of any stream.
+abbrev pub EndsUpdate : {A : Type 0} → Drawing A → Ref A → Ref Parts → Rest → Type 0
+EndsUpdate d random battle rest =
+    (since : Since d random.exit.now) (g : Setting) (p : Progress)
+    → Within g battle.entry.now p.field → (rest.is_cut ≡ false → IsReady rest g.terms p) → p.stream ≡ since.source.stream → StandsIn d since.source p.drawn random.entry.now
+    → let q = rest_of rest (ruling_of g.terms) p in Within g battle.exit.now q.field × StandsIn d since.source q.drawn random.exit.now

@@ -1,19 +1,20 @@
 -- A list of the battles that can follow from a pair of choices, with their weights.
-use Rattle.std.specs.Prelude.{List, take, slice_index, slice_index_or, ℕ, ◌*◌, ◌+◌, ◌<◌, ◌≡◌, ◌≤◌, ◌⊎◌}
+use Rattle.std.specs.Prelude.{List, take, slice_index_or, ℕ, ◌*◌, ◌++◌, ◌+◌, ◌<◌, ◌≡◌, ◌≤◌, ◌⊎◌}
 use Rattle.std.specs.List.{sum_by}
+use Rattle.gen1_rolls.specs.Streams.{Drawn}
 use Rattle.gen1_machine.specs.declared.choice.Choice.{Choice}
 use Rattle.gen1_machine.specs.State.{State}
 use Rattle.gen1_layout.specs.Parts.{Parts}
 use Rattle.gen1_layout.specs.Shows.{Telling}
-use Rattle.gen1_outcomes.specs.declared.nodes.Node.{Node}
 use Rattle.gen1_outcomes.specs.declared.nodes.Nodes.{Nodes}
 use Rattle.gen1_outcomes.specs.declared.options.OutcomeOptions.{OutcomeOptions}
 use Rattle.gen1_outcomes.specs.declared.outcomes.Outcomes.{Outcomes}
 use Rattle.gen1_outcomes.specs.declared.successor.Successor.{Successor}
 use Rattle.gen1_layout.specs.Within.{Stands}
 use Rattle.gen1_engine.specs.Update.{AreOffered}
-use Rattle.gen1_outcomes.specs.Following.{CanFollow, Leads, Walk}
-use Rattle.gen1_outcomes.specs.Logs.{IsLogged}
+use Rattle.gen1_outcomes.specs.Following.{Leads, Walk}
+use Rattle.gen1_outcomes.specs.Logs.{Agrees, IsLogged}
+use Rattle.gen1_outcomes.specs.Nodes.{IsPathOf}
 use Rattle.gen1_outcomes.specs.Script.{script_of}
 
 abbrev pub weight_of : Successor → ℕ
@@ -31,20 +32,23 @@ battle_at xs k past = (slice_index_or xs k past).battle
 abbrev pub untold : Telling
 untold = λ _. Unit {0}
 
--- A battle follows on each stream that agrees with the log of a way, whose bytes are noted by these options after those of a first part.
-pub record IsPlayed (s : State) (one two : Choice) (form : OutcomeOptions) (parts : Parts) : Type 0 where
+-- A part of an update was played with the draws of a script, which are noted by these options.
+pub record IsPart (form : OutcomeOptions) : Type 0 where
   pub nodes : Nodes
   pub options : nodes.options ≡ form
-  pub first : ℕ
   pub path : List ℕ
-  pub bytes : (k : ℕ) → (past : Node) → k < nodes.len → first + k < 24 → slice_index path (first + k) ≡ (slice_index_or nodes.list k past).byte
+  pub is_path : IsPathOf nodes path
   pub after : Nodes
-  pub way : IsLogged (script_of path) (record { left = first; nodes = nodes }) after
-  pub leads : Leads s one two way.log parts untold
+  pub way : IsLogged (script_of path) (record { left = 0; nodes = nodes }) after
 
--- A battle can follow, by a way that is noted by these options.
-abbrev pub FollowsBy : State → Choice → Choice → OutcomeOptions → Parts → Type 0
-FollowsBy s one two options parts = CanFollow s one two parts untold × IsPlayed s one two options parts
+-- A battle follows on each stream that agrees with the log of a first part of an update and then with that of a second one, and a stream does: of
+-- bytes, of which any 560 in a row hold every one. Nothing is drawn in the first part of an update that is played in one.
+pub record FollowsBy (s : State) (one two : Choice) (form : OutcomeOptions) (parts : Parts) : Type 0 where
+  pub first : IsPart form
+  pub second : IsPart form
+  pub leads : Leads s one two (first.way.log ++ second.way.log) parts untold
+  pub bytes : ℕ → ℕ
+  pub agrees : Agrees (first.way.log ++ second.way.log) (Drawn bytes 560)
 
 -- Each of the first battles does.
 abbrev pub EachFollows : State → Choice → Choice → OutcomeOptions → ℕ → List Successor → Type 0

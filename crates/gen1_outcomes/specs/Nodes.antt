@@ -1,5 +1,5 @@
 -- The draws of a way, and how one way leads to the next.
-use Rattle.std.specs.Prelude.{Bool, List, length, true, ℕ, slice_index, slice_index_or, ◌+◌, ◌-◌, ◌*◌, ◌/◌, ◌^◌, ◌<◌, ◌≡◌, ◌≢◌, ◌≤◌, ◌⊎◌, if◌then◌else◌}
+use Rattle.std.specs.Prelude.{Bool, List, length, true, ℕ, slice_index, slice_index_or, slice_set, ◌+◌, ◌-◌, ◌*◌, ◌/◌, ◌^◌, ◌<◌, ◌≡◌, ◌≢◌, ◌≤◌, ◌⊎◌, if◌then◌else◌}
 use Rattle.gen1_rolls.specs.declared.look.Look.{Look}
 use Rattle.gen1_rolls.specs.declared.look.Look.TheVariants.{Factor}
 use Rattle.gen1_outcomes.specs.declared.byte_set.ByteSet.{ByteSet}
@@ -36,6 +36,13 @@ pub record GoesOn (old new : Node) : Type 0 where
 -- The middle one of so many bytes that are 2 apart, from the first on.
 abbrev pub middle_of : ℕ → ℕ → ℕ
 middle_of first count = first + (count - 1) / 2 * 2
+
+-- The draw at a place does, and the others stay.
+pub record GoesOnIn (place : ℕ) (old new : List Node) : Type 0 where
+  pub within : place < length old
+  pub node : Node
+  pub here : (none : Node) → GoesOn (slice_index_or old place none) node
+  pub list : new ≡ slice_set old place node
 
 -- A class of damage: what is left of a roll that is alike to its first byte. The middle one is among what is left.
 pub record IsRun (node : Node) (first : ℕ) (class : ByteSet) : Type 0 where

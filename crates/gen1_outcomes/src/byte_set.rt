@@ -171,7 +171,7 @@ impl ByteSet {
 
 // The bits of a word that the other word lacks.
 #[tactic(auto, using(crate::proofs::Sets::without_bit))]
-fn minus(one: u64, other: u64) -> u64
+pub(crate) fn minus(one: u64, other: u64) -> u64
     ensures { (i : ℕ) → i < 64 → bit_at result i ≡ bit_at one i - bit_at other i }
 {
     one & !other
@@ -188,7 +188,7 @@ fn count_of(word: u64) -> u16
 
 // The number whose lowest bits are set, as many as are given, or all 64.
 #[tactic(auto, using(crate::proofs::Sets::ones_all, crate::proofs::Sets::ones_few))]
-fn ones(count: u8) -> u64
+pub(crate) fn ones(count: u8) -> u64
     ensures { result ≡ 2 ^ min count 64 - 1 }
 {
     if count >= 64 {

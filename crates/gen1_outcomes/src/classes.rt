@@ -42,7 +42,7 @@ fn class_of(damage_classes: u8, damage: u16, part: u16) -> u32
 }
 
 // The least factor, in 255ths, that makes the part of the damage.
-fn least_factor(damage: u16, part: u16) -> u32
+pub(crate) fn least_factor(damage: u16, part: u16) -> u32
     ensures value { result ≡ least_factor damage part }
     ensures bound { result ≤ 16776959 }
 {

@@ -10,7 +10,7 @@
 //! - `nodes`: the draws of a way, each with the bytes that are still to be tried
 //! - `explorer`: a generator that takes an update through all its ways, one after the other
 //! - `playing`: an update whose draws come from any generator
-//! - `beginning`: a turn up to its second action
+//! - `beginning`: a turn up to its second action, and the rest of it
 //! - `chances`: sums of probabilities, and which are below the least one
 //! - `middles`: positions between the two actions of a turn
 //! - `ways`: [`Ways`], the ways of an update one by one

@@ -1,31 +1,29 @@
 //! Positions between the two actions of a turn. Positions that agree are merged (docs/MECHANICS.md, "Link numbers").
 ghost use Rattle.std.specs.Prelude.{IfErr, IfOk, IfSome, IsFalse, IsOkUnless, IsTrue, OnOk, false, slice_index, slice_index_or, ℕ, ◌+◌, ◌-◌, ◌<◌, ◌≡◌, ◌≤◌};
-ghost use Rattle.gen1_layout.specs.Parts.{joined};
+ghost use Rattle.gen1_layout.specs.Parts.{joined, parts_of};
 ghost use Rattle.gen1_outcomes.specs.declared.fault.OutcomesFault.TheVariants.{Size};
 
 use crate::beginning::Rest;
 use crate::chances::plus;
 use crate::fault::OutcomesFault;
 use crate::merging::hash;
-use crate::nodes::{Chance, Nodes, unknown_path};
+use crate::nodes::{Chance, Nodes};
 use crate::script::DEPTH;
 use gen1_layout::Packed;
 
 /// How many positions are kept at once.
 pub const MIDDLES: usize = 16;
 
-/// A position between the two actions of a turn.
+/// A position between the two actions of a turn, or the beginning of an update that is not played in two parts.
 #[derive(Clone, Copy, PartialEq, Eq, Debug, Drop)]
 pub struct Middle {
-    /// The bytes of the battle.
+    /// The bytes of the battle. At the beginning they are not kept.
     pub bytes: [u8; 384],
-    /// What else the rest of the turn depends on.
-    pub rest: Rest,
+    /// What else the rest of the update depends on. `None` at the beginning.
+    pub rest: Option<Rest>,
     /// A number that is equal for equal bytes.
     pub hash: u64,
-    /// The bytes of the draws of a way that leads there, in the first places.
-    pub path: [u8; DEPTH],
-    /// How many draws that way has.
+    /// How many draws one way has that leads there.
     pub draws: usize,
     /// The probability of all ways that lead there.
     pub chance: Chance,
@@ -36,13 +34,14 @@ pub struct Middle {
 }
 
 impl Middle {
-    ghost use Rattle.gen1_outcomes.specs.Middles.{Gets, GoOnAlike, IsTooLong, LeadsTo};
+    ghost use Rattle.gen1_outcomes.specs.Middles.{Gets, GoOnAlike, IsTooLong};
     ghost use Rattle.gen1_outcomes.specs.Nodes.{IsChance};
+    ghost use Rattle.std.specs.Prelude.{None, Some};
 
     /// Where one way leads, which has these draws.
     pub fn new(battle: &Packed, rest: Rest, nodes: &Nodes, chance: Chance) -> Self
         ensures bytes { result.bytes ≡ joined battle.now }
-        ensures rest { result.rest ≡ rest }
+        ensures rest { result.rest ≡ Some rest }
         ensures draws { result.draws ≡ nodes.now.len }
         ensures chance { result.chance ≡ chance }
         ensures one { result.ways ≡ 1 }
@@ -51,9 +50,8 @@ impl Middle {
         bytes.copy_from_slice(battle.as_bytes());
         Middle {
             bytes,
-            rest,
+            rest: Some(rest),
             hash: hash(battle),
-            path: nodes.path(),
             draws: nodes.len,
             chance,
             ways: 1,
@@ -61,31 +59,27 @@ impl Middle {
     }
 
     /// The beginning of an update.
-    pub fn beginning(damage_classes: u8) -> Self
+    pub fn beginning() -> Self
+        ensures rest { result.rest ≡ None }
         ensures draws { result.draws ≡ 0 }
         ensures one { result.ways ≡ 1 }
     {
         Middle {
             bytes: [0; 384],
-            rest: Rest::all(),
+            rest: None,
             hash: 0,
-            path: unknown_path(damage_classes),
             draws: 0,
             chance: Chance { num: 1, whole: 1 },
             ways: 1,
         }
     }
 
-    /// The bytes of the way to this position, and then those of these draws.
-    pub fn path_to(&self, nodes: &Nodes) -> [u8; DEPTH]
-        ensures { LeadsTo self.now nodes.now result }
+    /// Writes the battle of this position.
+    pub fn write_to(&self, battle: &mut Packed)
+        ensures { battle.new ≡ parts_of self.now.bytes }
     {
-        let mut path = self.path;
-        let known = nodes.len.min(DEPTH - self.draws);
-        'places: for place in 0..known {
-            path[self.draws + place] = nodes.list[place].byte;
-        }
-        path
+        battle.header_mut().copy_from_slice(&self.bytes[..24]);
+        battle.sides_mut().copy_from_slice(&self.bytes[24..]);
     }
 
     /// The probability of the ways that lead there and then have these draws, which were noted with that of `self` before them.
@@ -114,9 +108,7 @@ impl Middle {
         ensures { IsTrue result → GoOnAlike self.now other.now }
     {
         self.hash == other.hash
-            && self.rest.is_cut == other.rest.is_cut
-            && self.rest.skips == other.rest.skips
-            && self.rest.second == other.rest.second
+            && are_same(self.rest, other.rest)
             && self.bytes[..] == other.bytes[..]
     }
 
@@ -139,6 +131,21 @@ impl Middle {
     }
 }
 
+// Whether both are those of positions, and the same.
+fn are_same(one: Option<Rest>, other: Option<Rest>) -> bool
+    ensures { IsTrue result → one ≡ other }
+{
+    match (one, other) {
+        (Some(rest), Some(others)) => {
+            rest.second == others.second
+                && rest.pick == others.pick
+                && rest.skips == others.skips
+                && rest.is_cut == others.is_cut
+        }
+        _ => false,
+    }
+}
+
 /// A list of positions.
 #[derive(Clone, Copy, PartialEq, Eq, Debug, Drop)]
 pub struct Middles {
@@ -157,7 +164,7 @@ impl Middles {
         ensures { result.len ≡ 0 }
     {
         Middles {
-            list: [Middle::beginning(0); MIDDLES],
+            list: [Middle::beginning(); MIDDLES],
             len: 0,
         }
     }

@@ -214,7 +214,7 @@ impl Node {
         })
     }
 
-    // The probability of the bytes that are alike to `byte`, in smaller numbers where both are even or equal.
+    // The probability of the bytes that are alike to `byte`, without the factors of 2 that both numbers share.
     fn part(&self) -> (u16, u16)
         ensures positive { 0 < result.1 }
         ensures exact { result.0 * self.now.total ≡ result.1 * self.now.count }
@@ -224,17 +224,8 @@ impl Node {
         if self.count >= self.total {
             return (1, 1);
         }
-        let mut num = self.count;
-        let mut whole = self.total;
-        'halves: for _ in 0..8 {
-            if num % 2 != 0 || whole % 2 != 0 {
-                break;
-            }
-            let half = halved(num, whole);
-            num = half.0;
-            whole = half.1;
-        }
-        (num, whole)
+        let twos = (self.count | self.total).trailing_zeros();
+        (self.count >> twos, self.total >> twos)
     }
 }
 
@@ -292,22 +283,6 @@ fn other_side(byte: u8, bound: u8) -> (ByteSet, u16)
     }
 }
 
-// Half of both, if both are even.
-#[tactic(auto, using(crate::proofs::Walking::halved))]
-fn halved(num: u16, whole: u16) -> (u16, u16)
-    requires { 0 < whole }
-    ensures num { result.0 ≤ num }
-    ensures whole { result.1 ≤ whole }
-    ensures positive { 0 < result.1 }
-    ensures exact { (t : ℕ) → (c : ℕ) → num * t ≡ whole * c → result.0 * t ≡ result.1 * c }
-{
-    if num % 2 == 0 && whole % 2 == 0 {
-        (num / 2, whole / 2)
-    } else {
-        (num, whole)
-    }
-}
-
 /// The draws and searches of a way, in order.
 #[derive(Clone, Copy, PartialEq, Eq, Debug, Drop)]
 pub struct Nodes {
@@ -330,7 +305,7 @@ pub struct Nodes {
 }
 
 impl Nodes {
-    ghost use Rattle.gen1_outcomes.specs.Nodes.{AllDone, AreBytes, AreLeft, AreToCome, HasAsked, IsChance, IsLeftOut, IsTooLarge, LeadsOn, Notes, Passes};
+    ghost use Rattle.gen1_outcomes.specs.Nodes.{AllDone, AreBytes, AreLeft, AreToCome, GoesOnIn, HasAsked, IsChance, IsDone, IsLeftOut, IsTooLarge, LeadsOn, Notes, Passes};
 
     /// No draw yet, and nothing before it.
     pub fn new(options: OutcomeOptions) -> Self
@@ -461,14 +436,22 @@ impl Nodes {
             if self.len == 0 {
                 return false;
             }
-            let mut last = self.list[self.len - 1];
-            if last.advance() {
-                self.list[self.len - 1] = last;
+            if Nodes::advance_in(&mut self.list, self.len - 1) {
                 return true;
             }
             self.len -= 1;
         }
         false
+    }
+
+    // Goes to a byte of the rest of the draw at a place, if there is one.
+    fn advance_in(list: &mut [Node; DEPTH], place: usize) -> bool
+        requires { place < 24 }
+        ensures on { IsTrue result → GoesOnIn place list.old list.new }
+        ensures done { IsFalse result → (none : Node) → IsDone (slice_index_or list.old place none) }
+        ensures kept { IsFalse result → list.new ≡ list.old }
+    {
+        list[place].advance()
     }
 
     /// The bytes of the way. The places after them have those of draws that are not known yet.

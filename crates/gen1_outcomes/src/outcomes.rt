@@ -1,12 +1,13 @@
 //! All battles that an update can lead to (docs/MECHANICS.md, "Link numbers").
-ghost use Rattle.std.specs.Prelude.{IfErr, IfOk, IsFalse, false, IsOkUnless, IsTrue, OnOk, length, replicate, ◌*◌, ◌+◌, ◌^◌, ◌<◌, ◌≡◌, ◌≢◌, ◌≤◌, ◌⊎◌};
+ghost use Rattle.std.specs.Prelude.{IfErr, IfOk, IsFalse, IsOkUnless, IsTrue, OnOk, length, replicate, true, ◌*◌, ◌+◌, ◌^◌, ◌<◌, ◌≡◌, ◌≢◌, ◌≤◌, ◌⊎◌};
 ghost use Rattle.gen1_machine.specs.State.{State};
 ghost use Rattle.gen1_layout.specs.Within.{Stands};
 ghost use Rattle.gen1_engine.specs.Update.{AreOffered};
 ghost use Rattle.gen1_outcomes.specs.Beginning.{have_two_actions};
-ghost use Rattle.gen1_outcomes.specs.Complete.{IsExact, ListsEvery};
+ghost use Rattle.gen1_outcomes.specs.Complete.{Extends, IsExact, ListsEvery, ListsFrom, ListsHandled, LosesNone, Offers, OffersTwo};
 ghost use Rattle.gen1_outcomes.specs.declared.fault.OutcomesFault.TheVariants.{Size};
 ghost use Rattle.gen1_outcomes.specs.Listing.{AreThose, EachFollows, HasSome, StillFollow, sum_of};
+ghost use Rattle.gen1_outcomes.specs.Middles.{AreReached, IsAdded, IsReached};
 ghost use Rattle.gen1_outcomes.specs.Merging.{AreDistinct, IsShort, LeavesOut, StayIndexed};
 ghost use Rattle.gen1_outcomes.specs.Shares.{CountsEach, EachIsProbable, StayProbable, TakesEach, taken};
 
@@ -59,8 +60,8 @@ pub fn list_outcomes(
 ) -> Result<Outcomes, OutcomesFault>
     ensures follow { (s : State) → Stands battle.now s
         → IfOk result (λ o. EachFollows s pair.0 pair.1 options o.count successors.new) }
-    ensures every { (s : State) → Stands battle.now s → have_two_actions pair.0 pair.1 s.field ≡ false
-        → IsExact options → IfOk result (λ o. ListsEvery s pair.0 pair.1 o.count successors.new) }
+    ensures every { (s : State) → Stands battle.now s → IsExact options
+        → IfOk result (λ o. ListsEvery s pair.0 pair.1 o.count successors.new) }
     ensures sum { IfOk result (λ o. sum_of o.count successors.new + o.left_out ≡ o.whole) }
     ensures within { IfOk result (λ o. o.count ≤ length successors.new) }
     ensures all { options.least ≡ 0 → IfOk result (λ o. o.left_out ≡ 0) }
@@ -98,10 +99,7 @@ fn list_ways(
         → AreOffered s ways.now.one ways.now.two
         → IfOk result (λ o.
         EachFollows s ways.now.one ways.now.two ways.now.options o.count successors.new) }
-    ensures every { (s : State) → Stands ways.now.start s
-        → AreOffered s ways.now.one ways.now.two
-        → have_two_actions ways.now.one ways.now.two s.field ≡ false → IsExact ways.now.options
-        → IfOk result (λ o.
+    ensures every { (s : State) → Offers ways.now s → IsExact ways.now.options → IfOk result (λ o.
         ListsEvery s ways.now.one ways.now.two o.count successors.new) }
     ensures sum { IfOk result (λ o. sum_of o.count successors.new + o.left_out ≡ o.whole) }
     ensures within { IfOk result (λ o. o.count ≤ length successors.new) }
@@ -136,9 +134,7 @@ fn add_all(
     ensures within { tally.new.count ≤ length successors.new }
     ensures follow { OnOk result (StillFollow ways.now tally.old.count successors.old
         tally.new.count successors.new) }
-    ensures every { OnOk result ((s : State) → Stands ways.now.start s
-        → AreOffered s ways.now.one ways.now.two
-        → have_two_actions ways.now.one ways.now.two s.field ≡ false → IsExact ways.now.options
+    ensures every { OnOk result (IsExact ways.now.options → (s : State) → Offers ways.now s
         → ListsEvery s ways.now.one ways.now.two tally.new.count successors.new) }
     ensures left_out { OnOk result (LeavesOut tally.old tally.new) }
     ensures probable { OnOk result (StayProbable tally.old successors.old tally.new
@@ -152,7 +148,7 @@ fn add_all(
     if ways.has_two_actions() {
         return add_in_parts(ways, successors, table, tally);
     }
-    let whole = Middle::beginning(ways.options().damage_classes);
+    let whole = Middle::beginning();
     finish(ways, &whole, successors, table, tally)
 }
 
@@ -163,10 +159,15 @@ fn add_in_parts(
     table: &mut [u32],
     tally: &mut Tally,
 ) -> Result<(), OutcomesFault>
+    requires two { (s : State) → Stands ways.now.start s
+        → have_two_actions ways.now.one ways.now.two s.field ≡ true }
     requires within { tally.old.count ≤ length successors.old }
     ensures within { tally.new.count ≤ length successors.new }
     ensures follow { OnOk result (StillFollow ways.now tally.old.count successors.old
         tally.new.count successors.new) }
+    ensures every { OnOk result (IsExact ways.now.options → tally.old.least ≡ 0 → (s : State)
+        → OffersTwo ways.now s
+        → ListsEvery s ways.now.one ways.now.two tally.new.count successors.new) }
     ensures left_out { OnOk result (LeavesOut tally.old tally.new) }
     ensures probable { OnOk result (StayProbable tally.old successors.old tally.new
         successors.new) }
@@ -202,6 +203,9 @@ fn keep(
     requires within { tally.old.count ≤ length successors.old }
     ensures count { tally.new.count ≡ tally.old.count }
     ensures battles { AreThose successors.old successors.new }
+    ensures kept { OnOk result ((middles.new ≡ middles.old)
+        ⊎ IsAdded middle.now middles.old middles.new) }
+    ensures every { OnOk result (tally.old.least ≡ 0 → IsAdded middle.now middles.old middles.new) }
     ensures left_out { OnOk result (LeavesOut tally.old tally.new) }
     ensures probable { OnOk result (StayProbable tally.old successors.old tally.new
         successors.new) }
@@ -222,10 +226,15 @@ fn make_room(
     table: &mut [u32],
     tally: &mut Tally,
 ) -> Result<(), OutcomesFault>
+    requires reached { AreReached ways.now middles.old }
     requires within { tally.old.count ≤ length successors.old }
     ensures room { OnOk result (middles.new.len < 16) }
+    ensures reached { OnOk result (AreReached ways.now middles.new) }
     ensures within { tally.new.count ≤ length successors.new }
     ensures follow { OnOk result (StillFollow ways.now tally.old.count successors.old
+        tally.new.count successors.new) }
+    ensures every { OnOk result (IsExact ways.now.options → tally.old.least ≡ 0
+        → LosesNone ways.now middles.old tally.old.count successors.old middles.new
         tally.new.count successors.new) }
     ensures left_out { OnOk result (LeavesOut tally.old tally.new) }
     ensures probable { OnOk result (StayProbable tally.old successors.old tally.new
@@ -251,10 +260,14 @@ fn go_on_from(
     table: &mut [u32],
     tally: &mut Tally,
 ) -> Result<(), OutcomesFault>
+    requires reached { AreReached ways.now middles.now }
     requires within { tally.old.count ≤ length successors.old }
     ensures within { tally.new.count ≤ length successors.new }
     ensures follow { OnOk result (StillFollow ways.now tally.old.count successors.old
         tally.new.count successors.new) }
+    ensures every { OnOk result (IsExact ways.now.options → tally.old.least ≡ 0
+        → ListsHandled ways.now middles.now tally.old.count successors.old tally.new.count
+        successors.new) }
     ensures left_out { OnOk result (LeavesOut tally.old tally.new) }
     ensures probable { OnOk result (StayProbable tally.old successors.old tally.new
         successors.new) }
@@ -278,14 +291,16 @@ fn finish(
     table: &mut [u32],
     tally: &mut Tally,
 ) -> Result<(), OutcomesFault>
+    requires reached { IsReached ways.now middle.now }
     requires within { tally.old.count ≤ length successors.old }
     ensures within { tally.new.count ≤ length successors.new }
     ensures follow { OnOk result (StillFollow ways.now tally.old.count successors.old
         tally.new.count successors.new) }
-    ensures every { OnOk result (middle.now.draws ≡ 0 → IsExact ways.now.options
-        → tally.old.least ≡ 0 → (s : State) → Stands ways.now.start s
-        → AreOffered s ways.now.one ways.now.two
-        → ListsEvery s ways.now.one ways.now.two tally.new.count successors.new) }
+    ensures every { OnOk result (IsExact ways.now.options → tally.old.least ≡ 0 → (s : State)
+        → Offers ways.now s
+        → ListsFrom ways.now middle.now s tally.new.count successors.new) }
+    ensures keeps { OnOk result (Extends tally.old.count successors.old tally.new.count
+        successors.new) }
     ensures left_out { OnOk result (LeavesOut tally.old tally.new) }
     ensures probable { OnOk result (StayProbable tally.old successors.old tally.new
         successors.new) }

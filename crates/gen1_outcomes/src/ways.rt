@@ -7,11 +7,10 @@ ghost use Rattle.gen1_engine.specs.Update.{AreOffered, Tests};
 ghost use Rattle.gen1_outcomes.specs.Beginning.{have_two_actions};
 ghost use Rattle.gen1_outcomes.specs.declared.fault.OutcomesFault.TheVariants.{Size};
 ghost use Rattle.gen1_outcomes.specs.Following.{CanFollow, IsBegun, PlaysNext};
-ghost use Rattle.gen1_outcomes.specs.Listing.{FollowsBy};
 ghost use Rattle.gen1_outcomes.specs.Nodes.{IsChance, IsTooLarge};
 ghost use Rattle.gen1_outcomes.specs.Middles.{IsTooLong, PlaysOn, Reaches};
 
-use crate::beginning::{begin, have_two_actions};
+use crate::beginning::{begin, end, have_two_actions};
 use crate::explorer::{After, Explorer};
 use crate::fault::OutcomesFault;
 use crate::middles::Middle;
@@ -138,6 +137,7 @@ impl Ways {
         ensures one { IfSome result (λ middle. middle.ways ≡ 1) }
         ensures reaches { IfSome result (λ middle.
             Reaches self.now nodes.old nodes.new middle) }
+        ensures fits { IfSome result (λ _. nodes.new.too_large ≡ false) }
         ensures large { IfNone result (IsTooLarge nodes.new) }
     {
         let mut battle = copy_of(&self.start);
@@ -165,7 +165,7 @@ impl Ways {
         nodes
     }
 
-    /// Plays the update in the way that leads there and then has these draws, and returns its probability.
+    /// Plays on from there in the way that has these draws, and returns its probability.
     ///
     /// # Errors
     ///
@@ -179,26 +179,36 @@ impl Ways {
         requires options { nodes.old.options ≡ self.now.options }
         ensures options { nodes.new.options ≡ self.now.options }
         ensures plays { PlaysOn self.now middle.now nodes.old nodes.new battle.new }
-        ensures follows { (s : State) → Stands self.now.start s
-            → AreOffered s self.now.one self.now.two
-            → FollowsBy s self.now.one self.now.two self.now.options battle.new }
         ensures chance { IfOk result (λ c. IsChance nodes.new c) }
         ensures fits { IfOk result (λ _. nodes.new.too_large ≡ false) }
         ensures size { IsOkUnless result Size }
         ensures large { IfErr result (λ _. IsTooLong middle.now nodes.new) }
     {
-        *battle = copy_of(&self.start);
-        let path = middle.path_to(&*nodes);
-        let notes = After {
-            left: middle.draws,
-            nodes: &mut *nodes,
-        };
-        let explorer = Explorer::new(path, notes);
-        let one = copied(&self.one);
-        let two = copied(&self.two);
-        explorer.draws_a_stream();
-        play(battle, one, two, explorer, &mut Silent);
+        self.play_on(nodes, middle, battle);
         middle.chance_with(nodes)
+    }
+
+    // Plays the rest of the update from a position, or all of it from its beginning.
+    fn play_on(&self, nodes: &mut Nodes, middle: &Middle, battle: &mut Packed)
+        requires options { nodes.old.options ≡ self.now.options }
+        ensures options { nodes.new.options ≡ self.now.options }
+        ensures plays { PlaysOn self.now middle.now nodes.old nodes.new battle.new }
+    {
+        let path = nodes.path();
+        let mut explorer = Explorer::new(path, After::of(&mut *nodes));
+        explorer.draws_a_stream();
+        match middle.rest {
+            Some(rest) => {
+                middle.write_to(battle);
+                end(battle, rest, &mut explorer);
+            }
+            None => {
+                *battle = copy_of(&self.start);
+                let one = copied(&self.one);
+                let two = copied(&self.two);
+                play(battle, one, two, explorer, &mut Silent);
+            }
+        }
     }
 
     /// Whether both sides use a move, so that the update has two actions.

@@ -637,7 +637,7 @@ first-same One team pixels = refl
 first-same Two team pixels = refl
 
 pub holds : (s : Side) (pixels : ℕ) (one two : List Member) (r : Ran) → AllTellable (events_in r) first_public → PlayerHolds s pixels one two r
-holds s pixels one two r tellable foes form log shown player reading is =
+holds s pixels one two r tellable terms log shown player reading is =
     let team : List Member = team_of s one two in
     let first : Teller = first_teller s pixels in
     let es : List Event = told_all (events_in r) first in

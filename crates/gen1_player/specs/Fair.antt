@@ -25,8 +25,8 @@ use Rattle.gen1_player.specs.OwnSide.{OwnActive, OwnConditions, OwnMember, OwnSi
 use Rattle.gen1_player.specs.PlainOwnSide.{no_member, plain_side}
 use Rattle.std.specs.List.{flat_map}
 use Rattle.gen1_machine.specs.LogBytes.{codes_of}
-use Rattle.gen1_player.specs.declared.hp_form.HpForm.{HpForm}
 use Rattle.gen1_player.specs.declared.player.Player.{Player}
+use Rattle.gen1_player.specs.declared.player.PlayerTerms.{PlayerTerms}
 use Rattle.gen1_player.specs.declared.teller.Teller.{Teller}
 use Rattle.gen1_player.specs.Player.{IsPlayer}
 use Rattle.gen1_player.specs.Telling.{meets_all, told_all}
@@ -233,13 +233,13 @@ abbrev pub end_of : Played → Field
 end_of b = (run (begun b) b.pairs).state.field
 
 -- The player of a side after a battle. It was fed all logs, and shown itself and the set of its choices as they are in the end.
-abbrev pub IsPlayerIn : (List Choice → ℕ) → Teller → Side → ℕ → HpForm → Played → Player → Type 0
-IsPlayerIn set_of first s foes form b player =
-    IsPlayer s (own_team s b) foes form (all_logs (given (told_by first) s b))
+abbrev pub IsPlayerIn : (List Choice → ℕ) → Teller → Side → PlayerTerms → Played → Player → Type 0
+IsPlayerIn set_of first s terms b player =
+    IsPlayer s (own_team s b) terms (all_logs (given (told_by first) s b))
     (record { own = plain_side (own_side s (end_of b)); offered = set_of (offered s (end_of b)) }) player
 
--- In two battles of its team in which a side is given the same, its player is the same.
+-- In two battles of its team in which a side is given the same, its player by the same terms is the same.
 abbrev pub FairPlayer : Type 0
-FairPlayer = (set_of : List Choice → ℕ) (first : Teller) (s : Side) (foes : ℕ) (form : HpForm) (a b : Played) (p q : Player)
+FairPlayer = (set_of : List Choice → ℕ) (first : Teller) (s : Side) (terms : PlayerTerms) (a b : Played) (p q : Player)
     → own_team s a ≡ own_team s b → given (told_by first) s a ≡ given (told_by first) s b
-    → IsPlayerIn set_of first s foes form a p → IsPlayerIn set_of first s foes form b q → p ≡ q
+    → IsPlayerIn set_of first s terms a p → IsPlayerIn set_of first s terms b q → p ≡ q

@@ -1,16 +1,17 @@
--- What a player knows: a function of its own team, of the log bytes that it was told, and of what it was last shown of itself
+-- What a player knows: a function of its own team and its terms, of the log bytes that were reported to it, and of what it was last shown of itself
 -- (docs/MECHANICS.md, "Player's view").
 use Rattle.std.specs.Prelude.{List, [], length, map, replicate, slice_index_or, take, ℕ, ◌++◌, ◌-◌, ◌≡◌, ◌≤◌, ◌∷◌}
 use Rattle.gen1_stats.specs.Members.{Member}
 use Rattle.gen1_machine.specs.declared.event.Event.{Event}
 use Rattle.gen1_machine.specs.declared.side.Side.{Side}
 use Rattle.gen1_machine.specs.Numbers.{side_number}
+use Rattle.gen1_machine.specs.Rules.{bits_of_rules}
 use Rattle.gen1_events.specs.Reader.{IsPart}
 use Rattle.gen1_events.specs.Splits.{Splits}
-use Rattle.gen1_player.specs.declared.hp_form.HpForm.{HpForm}
 use Rattle.gen1_player.specs.declared.own.OwnSide.{OwnSide}
 use Rattle.gen1_player.specs.declared.own.OwnMember.{OwnMember}
 use Rattle.gen1_player.specs.declared.player.Player.{Player}
+use Rattle.gen1_player.specs.declared.player.PlayerTerms.{PlayerTerms}
 use Rattle.gen1_player.specs.declared.public.Public.{Public}
 use Rattle.gen1_player.specs.declared.public_side.PublicSide.{PublicSide}
 use Rattle.gen1_player.specs.declared.seen.Seen.{Seen}
@@ -69,16 +70,19 @@ pub record Shown : Type 0 where
   pub offered : ℕ
 
 -- The player after some events, with the bytes of an event that has come in part.
-abbrev pub player_of : Side → List Member → ℕ → HpForm → List Event → List ℕ → Shown → Player
-player_of side team foes form events held shown = record {
+abbrev pub player_of : Side → List Member → PlayerTerms → List Event → List ℕ → Shown → Player
+player_of side team terms events held shown = record {
   public = hears_all events (first_known side team);
   own = shown.own;
   offered = shown.offered;
+  limit = terms.limit;
   side = side_number side;
-  foes = foes;
+  foes = terms.foes;
+  rules = bits_of_rules terms.rules;
+  hp_form = form_number terms.hp_form;
   held_count = length held;
   held = held ++ replicate (10 - length held) 0;
-  hp_form = form_number form;
+  unused = 0;
 }
 
 -- What a feed leaves of any bytes, valid or not: at most ten bytes are held, with zeros after them, and no more changes than these and
@@ -88,11 +92,10 @@ pub record IsFed (old new : Player) : Type 0 where
   pub zeros : new.held ≡ take new.held_count new.held ++ replicate (10 - new.held_count) 0
   pub others : new ≡ record old { public = new.public; held_count = new.held_count; held = new.held }
 
--- It knows what follows from its side and team, the number of the foe's members (0 if it wasn't given), the form of their HP, the bytes that
--- it was told, and what it was shown last; and nothing else.
-pub record IsPlayer (side : Side) (team : List Member) (foes : ℕ) (form : HpForm) (told : List ℕ) (shown : Shown) (player : Player) : Type 0 where
+-- It knows what follows from its side, its team and its terms, the bytes that were reported to it, and what it was shown last; and nothing else.
+pub record IsPlayer (side : Side) (team : List Member) (terms : PlayerTerms) (told : List ℕ) (shown : Shown) (player : Player) : Type 0 where
   pub events : List Event
   pub held : List ℕ
   pub splits : Splits told events held
   pub part : IsPart held
-  pub is : player ≡ player_of side team foes form events held shown
+  pub is : player ≡ player_of side team terms events held shown

@@ -33,8 +33,8 @@ use Rattle.gen1_player.specs.declared.public_side.PublicSide.{PublicSide}
 use Rattle.gen1_player.specs.declared.seen.Seen.{Seen}
 use Rattle.gen1_player.specs.declared.seen.SeenMove.{SeenMove}
 use Rattle.gen1_events.specs.Splits.{IsReading}
-use Rattle.gen1_player.specs.declared.hp_form.HpForm.{HpForm}
 use Rattle.gen1_player.specs.declared.player.Player.{Player}
+use Rattle.gen1_player.specs.declared.player.PlayerTerms.{PlayerTerms}
 use Rattle.gen1_player.specs.declared.teller.Teller.{Teller}
 use Rattle.gen1_player.specs.Player.{IsPlayer, known_at}
 use Rattle.gen1_player.specs.Player as players
@@ -260,8 +260,8 @@ first_teller s pixels = record { side = side_number s; pixels = pixels; places =
 
 -- A player that was fed what its side was told of a run holds what the log of the run makes public, as its side knows it.
 abbrev pub PlayerHolds : Side → ℕ → List Member → List Member → Ran → Type 0
-PlayerHolds s pixels one two r = (foes : ℕ) (form : HpForm) (log : List ℕ) (shown : players.Shown) (player : Player)
-    → IsReading log (told_all (events_in r) (first_teller s pixels)) → IsPlayer s (team_of s one two) foes form log shown player
+PlayerHolds s pixels one two r = (terms : PlayerTerms) (log : List ℕ) (shown : players.Shown) (player : Player)
+    → IsReading log (told_all (events_in r) (first_teller s pixels)) → IsPlayer s (team_of s one two) terms log shown player
     → player.public ≡ as_known s (team_of s one two) (meets_all (events_in r) (first_teller s pixels)) (public_of r)
 
 abbrev pub PlayersHoldThePublic : Type 0

@@ -33,8 +33,8 @@ pub fn fair()
     ensures { Fair }
 {}
 
-/// The player of a side is the same in any two battles of its team in which the side gets the same logs, and is shown the same of itself
-/// after each update.
+/// Two players of a side with the same team and terms are equal, if in both battles the side gets the same logs, and is shown the same of
+/// itself after each update.
 pub fn fair_player()
     ensures { FairPlayer }
 {}

@@ -31,7 +31,7 @@ pub use laws::{
     fair, fair_player, hides_the_counts, hides_the_foe, offers_what_is_shown, tells_hp,
 };
 pub use own::{OwnMember, OwnSide, own_side};
-pub use player::{Player, players_with_the_same_are_alike};
+pub use player::{Player, PlayerTerms, players_with_the_same_are_alike};
 pub use public::Public;
 pub use public_side::PublicSide;
 pub use seen::{Seen, SeenMove};

@@ -11,7 +11,5 @@ pub mod Ending
 -- Plain rooms.
 pub mod PlainRooms
 -- Submissions one after the other.
-pub mod Running
 -- The laws of replies.
 pub mod Blind
-pub mod Answered

@@ -6,6 +6,7 @@
 //! - `following`: a view that follows log bytes
 //! - `hosts`: tables
 //! - `own_sides`: what a side is shown of itself
+//! - `public`: what each event makes public
 //! - `players`: what a player knows
 //! - `rooms`: rooms
 //! - `plain_rooms`: rooms that their caller keeps, and forfeits
@@ -30,6 +31,8 @@ mod own_sides;
 mod plain_rooms;
 #[cfg(test)]
 mod players;
+#[cfg(test)]
+mod public;
 #[cfg(test)]
 mod rooms;
 #[cfg(test)]

@@ -1,5 +1,7 @@
 //! Teams for the tests. At level 100, with DVs of 15 and all experience, Tauros has 353 HP and Chansey 703.
 use arrayvec::ArrayVec;
+use gen1_machine::{Rules, TurnLimit};
+use gen1_player::{HpForm, PlayerTerms};
 use gen1_stats::{MemberSpec, Team};
 use gen1_tables::{MoveId, Species};
 use std::test::Fail;
@@ -39,4 +41,14 @@ pub(crate) fn lead_and_chansey(moves: &[&str]) -> Result<Team, Fail> {
     let lead = member("Tauros", moves)?;
     let other = member("Chansey", &["Strength"])?;
     Ok(Team::new(&[lead, other])?)
+}
+
+/// The terms of a player in a battle of 250 turns with the sleep clause.
+pub(crate) fn terms_in(hp_form: HpForm, foes: u8) -> Result<PlayerTerms, Fail> {
+    Ok(PlayerTerms {
+        rules: Rules::new(1).ok_or("no such rules")?,
+        limit: TurnLimit::new(250).ok_or("no such limit")?,
+        foes,
+        hp_form,
+    })
 }

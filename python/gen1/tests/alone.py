@@ -4,7 +4,7 @@ import ctypes
 import struct
 
 from conftest import LIB
-from gen1._structs import LOG_ROOM, OwnSideStruct, PlayerStruct, TellerStruct
+from gen1._structs import LOG_ROOM, OwnSideStruct, PlayerStruct, PlayerTermsStruct, TellerStruct
 
 SIDES = (1, 2)
 LINE_ROOM = 96
@@ -61,7 +61,8 @@ class Alone:
         self.players = [ctypes.create_string_buffer(ctypes.sizeof(PlayerStruct)) for _ in SIDES]
         for side, teller, player in zip(SIDES, self.tellers, self.players):
             assert LIB.gen1_teller_begin(teller, side, pixels) & 0xFF == 0
-            assert LIB.gen1_player_begin(player, side, given[side - 1], len(teams[2 - side]), pixels) == 0
+            terms = PlayerTermsStruct(limit, rules, len(teams[2 - side]), pixels)
+            assert LIB.gen1_player_begin(player, side, given[side - 1], ctypes.byref(terms)) == 0
 
     @property
     def result(self):

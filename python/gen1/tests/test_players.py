@@ -29,6 +29,7 @@ from gen1 import (
     PublicSide,
     Request,
     Room,
+    Rules,
     Seen,
     SeenMove,
     Side,
@@ -40,7 +41,7 @@ from gen1 import (
     Teller,
     Type,
 )
-from gen1._structs import OwnSideStruct, PlayerStruct, TellerStruct
+from gen1._structs import OwnSideStruct, PlayerStruct, PlayerTermsStruct, TellerStruct
 from gen1.names import LogFault
 
 SEED = bytes([1, 36, 255, 7, 31, 100, 179, 254, 127, 10])
@@ -95,6 +96,9 @@ def test_before_the_battle(player):
         Request.NOTHING,
     )
     assert Player(2, [TAUROS], foes=6).foes == 6 and Player(2, [TAUROS], 1).side is Side.TWO
+    terms = Player(2, [TAUROS], rules=Rules.FREEZE_CLAUSE, limit=9999)
+    assert (terms.rules, terms.limit) == (Rules.FREEZE_CLAUSE, 9999) and (player.rules, player.limit) == (0, 1000)
+    assert terms.rules is Rules.FREEZE_CLAUSE and terms != Player(2, [TAUROS], limit=9999) != Player(2, [TAUROS])
     assert (
         repr(player) == "<Player of side 1, turn 0, ongoing>"
         and repr(Teller(2, True)) == "<Teller of side 2, in pixels>"
@@ -350,7 +354,8 @@ def test_random_battles():
         teller, player = Teller(side, pixels=False), Player(side, own_team, len(teams[foe_side - 1]))
         raw_teller, raw, buffer = TellerStruct(), PlayerStruct(), ctypes.create_string_buffer(512)
         LIB.gen1_teller_begin(ctypes.byref(raw_teller), side, 0)
-        LIB.gen1_player_begin(ctypes.byref(raw), side, ctypes.byref(own_team._struct), len(teams[foe_side - 1]), 0)
+        terms = PlayerTermsStruct(60, battle.state.rules, len(teams[foe_side - 1]), 0)
+        LIB.gen1_player_begin(ctypes.byref(raw), side, ctypes.byref(own_team._struct), ctypes.byref(terms))
         while not battle.result.is_over:
             log = battle.update(*(dice.choice(battle.choices(it)) for it in (1, 2))).log
             teller.report(battle, log, player)
@@ -450,7 +455,7 @@ def test_copies(player, copied):
 
 def test_sizes_of_structs():
     """include/gen1.h, GEN1_OWN_SIDE_SIZE and GEN1_PLAYER_SIZE."""
-    assert (ctypes.sizeof(OwnSideStruct), ctypes.sizeof(PlayerStruct), ctypes.sizeof(TellerStruct)) == (172, 484, 8)
+    assert (ctypes.sizeof(OwnSideStruct), ctypes.sizeof(PlayerStruct), ctypes.sizeof(TellerStruct)) == (172, 488, 8)
 
 
 def test_logs_that_are_wrong(player):
@@ -495,6 +500,11 @@ def test_wrong_arguments(player):
         calls += [(lambda call=call, it=it: call(it), BadType) for it in NO_NUMBERS]
     calls += [(lambda it=it: Player(1, [TAUROS], it), BadArgument) for it in (0, 7, *BIG)]
     calls += [(lambda it=it: Player(1, [TAUROS], it), BadType) for it in NO_NUMBERS if it is not None]
+    calls += [(lambda it=it: Player(1, [TAUROS], rules=it), BadArgument) for it in (4, *BIG)]
+    calls += [(lambda it=it: Player(1, [TAUROS], limit=it), BadArgument) for it in (0, 10_000, *BIG[4:])]
+    for it in NO_NUMBERS:
+        calls += [(lambda it=it: Player(1, [TAUROS], rules=it), BadType)]
+        calls += [(lambda it=it: Player(1, [TAUROS], limit=it), BadType)]
     calls += [(lambda it=it: Player(1, it), BadType) for it in (None, 5, "Tauros", [None])] + [
         (lambda: Player(1, []), BadTeam)
     ]
@@ -623,7 +633,7 @@ def test_bytes_are_those_of_the_c_structs():
         pairs += 1
     room = known_table()[0]
     room.forfeit(2)
-    assert pairs == 25 and fnv(found, bytes(Room.from_bytes(bytes(room)))) == 0x6E7819E120C59F94
+    assert pairs == 25 and fnv(found, bytes(Room.from_bytes(bytes(room)))) == 0x3895A0453EAA0160
 
 
 def test_bytes_that_are_refused():
@@ -636,7 +646,13 @@ def test_bytes_that_are_refused():
         *((table[3], at, byte, field) for at, byte, field in ((4, 152, "species"), (1, 4, "hp"), (286, 7, "place"))),
         *(
             (table[3], at, byte, field)
-            for at, byte, field in ((469, 16, "offered"), (472, 9, "held"), (470, 3, "side"))
+            for at, byte, field in (
+                (469, 16, "offered"),
+                (471, 40, "limit"),
+                (474, 4, "rules"),
+                (476, 9, "held"),
+                (472, 3, "side"),
+            )
         ),
         *((table[1], at, byte, field) for at, byte, field in ((0, 0, "side"), (1, 3, "pixels"), (3, 1, "places"))),
         *(

@@ -115,10 +115,10 @@ def test_bad_arguments(gengar, battle):
     for wrong in (0, 6, 2.5, "3", True, None):
         with pytest.raises((BadArgument, BadType)):
             search.think(gengar, level=wrong)
-    for name in ("nodes", "trees", "guesses", "threads", "limit"):
+    for name in ("nodes", "trees", "guesses", "threads"):
         with pytest.raises(BadArgument, match=name):
             search.think(gengar, **{name: 0})
-    for name, wrong in (("seed", -1), ("rules", 4), ("seconds", 0.0), ("limit", 10_000)):
+    for name, wrong in (("seed", -1), ("seconds", 0.0)):
         with pytest.raises(BadArgument, match=name):
             search.think(gengar, **{name: wrong})
     with pytest.raises(BadType, match="player must be a Player"):

@@ -454,6 +454,12 @@ def test_a_log_of_the_document():
         Follower(1).player
 
 
+def test_the_rules_of_a_log():
+    follower = Follower(2)
+    follower.read("|rule|Sleep Clause Mod: Limit one foe put to sleep\n" + FOLLOWED)
+    assert (follower.player.rules, follower.player.limit) == (Rules.SLEEP_CLAUSE, 1000)
+
+
 def test_a_battle_to_search():
     teams = "Tauros||||bodyslam,earthquake|||||||", "Alakazam||||psychic,recover|||||||"
     simulator, said = begun(teams)

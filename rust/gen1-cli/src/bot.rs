@@ -1,7 +1,7 @@
 //! A side that the program plays, by a search from what its player knows (rust/gen1-search/README.md).
 use crate::fault;
 use clap::builder::StyledStr;
-use gen1::{Choice, Player, Rules, TurnLimit};
+use gen1::{Choice, Player};
 use gen1_search::{Dice, LEVELS, Prior, ThinkOptions, think};
 
 /// The levels, for the help of an option: `what` and their nodes.
@@ -31,10 +31,10 @@ impl Bot {
     }
 
     /// A choice that the player is offered; `None` if it is offered none. Without a search it is the first, with a note.
-    pub fn choice(&mut self, player: &Player, rules: Rules, limit: TurnLimit) -> Option<Choice> {
+    pub fn choice(&mut self, player: &Player) -> Option<Choice> {
         let first = player.choices().first().copied()?;
         let mut options = ThinkOptions::level(self.level);
-        (options.seed, options.rules, options.limit) = (self.dice.bits(), rules, limit);
+        options.seed = self.dice.bits();
         Some(match think(player, &self.prior, &options) {
             Ok(thought) => thought.draw(&mut self.dice),
             Err(why) => {

@@ -8,9 +8,7 @@ use crate::input::{Given, ReadTerms, team};
 use crate::random;
 use crate::screen;
 use clap::{Args, ValueEnum};
-use gen1::{
-    Battle, Choice, Host, LogFault, Offered, Player, Rules, Side, Team, TurnLimit, events_of,
-};
+use gen1::{Battle, Choice, Host, LogFault, Offered, Player, Side, Team, TurnLimit, events_of};
 use gen1_search::Dice;
 use std::path::{Path, PathBuf};
 
@@ -116,18 +114,16 @@ fn submit(host: &mut Host, side: Side, choice: Choice) -> Result<(), Fault> {
 struct Searcher {
     bot: Bot,
     player: Player,
-    rules: Rules,
-    limit: TurnLimit,
 }
 
 impl Searcher {
     fn new(level: u8, teams: &[Team; 2], dice: &mut Dice, battle: &Battle) -> Searcher {
         let foes = teams[0].members().len() as u8;
+        let player = Player::with_foes(Side::Two, &teams[1], foes);
+        let limit = TurnLimit::new(battle.limit()).unwrap_or_default();
         Searcher {
             bot: Bot::new(level, dice.bits()),
-            player: Player::with_foes(Side::Two, &teams[1], foes),
-            rules: battle.state().rules,
-            limit: TurnLimit::new(battle.limit()).unwrap_or_default(),
+            player: player.with_terms(battle.rules(), limit),
         }
     }
 
@@ -135,7 +131,7 @@ impl Searcher {
         if let [only] = self.player.choices().as_slice() {
             return Some(*only);
         }
-        self.bot.choice(&self.player, self.rules, self.limit)
+        self.bot.choice(&self.player)
     }
 }
 

@@ -8,7 +8,7 @@ use crate::input::{Given, Start, team, team_named};
 use crate::json::{line_of, turn_of};
 use crate::words;
 use clap::Args;
-use gen1::{Battle, Choice, LogBuf, OutcomeOptions, Player, Side, Teller, TurnLimit, write_log};
+use gen1::{Battle, Choice, LogBuf, OutcomeOptions, Player, Side, Teller, write_log};
 use gen1_search::{
     Interval, Pp, Prior, Progress, SolveOptions, Solver, Stopped, ThinkOptions, Thought,
     choice_words,
@@ -64,8 +64,7 @@ pub fn think(asked: &Think, given: &Given) -> Result<(), Fault> {
         (None, None) => options.nodes,
     };
     options.time = asked.ms.map(Duration::from_millis);
-    (options.seed, options.rules) = (asked.search_seed, start.rules);
-    options.limit = TurnLimit::new(start.battle.limit()).unwrap_or_default();
+    options.seed = asked.search_seed;
     let mut battle = start.battle.clone();
     let player = player(side, &start, |then| game::play(&mut battle, &pairs, then))?;
     let thought = gen1_search::think(&player, &prior(&asked.foe)?, &options);

@@ -6,7 +6,7 @@ use crate::game::play;
 use crate::input::Given;
 use crate::team::formats_in;
 use clap::{Args, ValueEnum};
-use gen1::{Side, TurnLimit};
+use gen1::Side;
 use gen1_showdown::{Heading, Hp, LineWriter, Options, Simulator, Viewer, numbered};
 use std::path::PathBuf;
 use std::time::SystemTime;
@@ -113,8 +113,8 @@ pub fn simulate(asked: &Showdown) -> Result<(), Fault> {
 
 /// Makes the choices that a bot has to make.
 fn chosen(simulator: &mut Simulator, side: Side, bot: &mut Bot) -> Result<(), Fault> {
-    while let Some((player, rules)) = simulator.to_choose(side) {
-        let Some(choice) = bot.choice(player, rules, TurnLimit::default()) else {
+    while let Some(player) = simulator.to_choose(side) {
+        let Some(choice) = bot.choice(player) else {
             break;
         };
         put(simulator.choose(side, choice)?.text)?;

@@ -2,7 +2,7 @@
 use alloc::format;
 use alloc::string::{String, ToString};
 use alloc::vec::Vec;
-use gen1::{ArrayVec, MemberSpec, MoveId, OutcomeOptions, Rules, Species, TurnLimit};
+use gen1::{ArrayVec, MemberSpec, MoveId, OutcomeOptions, Species};
 use gen1_search::{Pp, Prior, SolveOptions, ThinkOptions};
 
 /// The options of `gen1_search_think`.
@@ -21,12 +21,8 @@ pub struct ThinkForm {
     pub guesses: u32,
     /// The number of threads, from 1. A module of WebAssembly has one.
     pub threads: u32,
-    /// The turn limit of the battle, 1 to 9,999.
-    pub limit: u16,
-    /// The rules of the battle, 0 to 3.
-    pub rules: u8,
     /// Ignored.
-    pub unused: u8,
+    pub unused: u32,
     /// The teams that the foe may have: `count` structs `gen1_team`. With a count of 0 they are the sample teams.
     pub teams: *const [u8; TEAM],
     /// The weight of each team, above 0.
@@ -44,9 +40,6 @@ impl ThinkForm {
         let mut options = ThinkOptions::default();
         (options.nodes, options.seed) = (self.nodes, self.seed);
         (options.trees, options.guesses) = (self.trees as usize, self.guesses as usize);
-        options.rules = rules_of(self.rules)?;
-        options.limit = TurnLimit::new(self.limit)
-            .ok_or_else(|| format!("the turn limit is {}, not 1 to 9,999", self.limit))?;
         #[cfg(feature = "threads")]
         if self.milliseconds > 0 {
             options.time = Some(core::time::Duration::from_millis(self.milliseconds));
@@ -78,17 +71,6 @@ impl ThinkForm {
         }
         Prior::new(read).map_err(|why| why.to_string())
     }
-}
-
-fn rules_of(bits: u8) -> Result<Rules, String> {
-    let all = [
-        Rules::NONE,
-        Rules::SLEEP_CLAUSE,
-        Rules::FREEZE_CLAUSE,
-        Rules::SLEEP_CLAUSE | Rules::FREEZE_CLAUSE,
-    ];
-    let found = all.get(usize::from(bits)).copied();
-    found.ok_or_else(|| format!("the rules are {bits}, not 0 to 3"))
 }
 
 /// The sizes of a `gen1_team` and of its members.

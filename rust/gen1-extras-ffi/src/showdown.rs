@@ -602,13 +602,14 @@ fn followed(
     let own = follower.player()?;
     let seen = own.public(side).members.iter().filter(|it| it.species != 0);
     let seen: Vec<_> = seen.map(|it| (it.species, it.level)).collect();
-    let hp_form = own.hp_form().number();
+    let (hp_form, rules) = (own.hp_form().number(), own.rules().bits());
     let words = |side, chosen: Option<Chosen>| Some(follower.words(side, chosen?));
     let choices = follower.choices().into_iter();
     let choices = choices.map(|[one, two]| [words(Side::One, one), words(Side::Two, two)]);
     let choices: Vec<_> = choices.collect();
     Ok(json!({
-        "notes": notes, "sides": of_sides, "seen": seen, "hp_form": hp_form, "log": hex(&follower.log()), "choices": choices,
+        "notes": notes, "sides": of_sides, "seen": seen, "hp_form": hp_form, "rules": rules, "limit": own.limit(),
+        "log": hex(&follower.log()), "choices": choices,
     }))
 }
 

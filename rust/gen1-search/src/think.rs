@@ -6,9 +6,7 @@ use crate::{Dice, Prior};
 use alloc::string::String;
 use alloc::vec::Vec;
 use core::fmt;
-use gen1::{
-    Battle, Choice, Choices, Guess, GuessFault, MoveId, Player, Rules, Side, TeamRefusal, TurnLimit,
-};
+use gen1::{Battle, Choice, Choices, Guess, GuessFault, MoveId, Player, Side, TeamRefusal};
 
 /// The nodes of the levels of play, 1 to 5.
 pub const LEVELS: [u64; 5] = [200, 1_000, 6_000, 35_000, 200_000];
@@ -35,10 +33,6 @@ pub struct ThinkOptions<'a> {
     pub trees: usize,
     /// How many guesses of the foe's team each tree makes. The default is 16.
     pub guesses: usize,
-    /// The rules of the battle. A player's view doesn't hold them.
-    pub rules: Rules,
-    /// The turn limit of the battle.
-    pub limit: TurnLimit,
     /// Asked now and then whether to stop. The default is `None`.
     pub stop: Option<&'a (dyn Fn() -> bool + Sync)>,
 }
@@ -52,8 +46,6 @@ impl Default for ThinkOptions<'_> {
             seed: 0,
             trees: 4,
             guesses: 16,
-            rules: Rules::NONE,
-            limit: TurnLimit::default(),
             stop: None,
         }
     }
@@ -202,7 +194,7 @@ pub fn think(
     let mut dice = Dice::new(options.seed);
     match offered.as_slice() {
         [] => return Err(ThinkFault::NoChoice),
-        [only] => return Ok(forced(player, prior, options, *only, &mut dice)),
+        [only] => return Ok(forced(player, prior, *only, &mut dice)),
         _ => {}
     }
     let mut sets = Vec::new();
@@ -217,14 +209,8 @@ pub fn think(
 }
 
 /// The thought about an only choice.
-fn forced(
-    player: &Player,
-    prior: &Prior,
-    options: &ThinkOptions<'_>,
-    only: Choice,
-    dice: &mut Dice,
-) -> Thought {
-    let guess = guess(player, prior, options, dice);
+fn forced(player: &Player, prior: &Prior, only: Choice, dice: &mut Dice) -> Thought {
+    let guess = guess(player, prior, dice);
     let value = guess.as_ref().map_or(0.5, |it| {
         of_side(player.side(), leaf::value(it, &MatchUps::of(it)))
     });
@@ -254,15 +240,9 @@ fn of_side(side: Side, value: f64) -> f64 {
 }
 
 /// A battle that fits what the player knows.
-fn guess(
-    player: &Player,
-    prior: &Prior,
-    options: &ThinkOptions<'_>,
-    dice: &mut Dice,
-) -> Result<Battle, ThinkFault> {
+fn guess(player: &Player, prior: &Prior, dice: &mut Dice) -> Result<Battle, ThinkFault> {
     let team = prior.guess(player, dice).map_err(ThinkFault::Team)?;
-    let mut guess = Guess::new(team, dice.numbers());
-    (guess.rules, guess.limit) = (options.rules, options.limit);
+    let guess = Guess::new(team, dice.numbers());
     let battle = Battle::from_player(player, &guess).map_err(ThinkFault::NoGuess)?;
     Ok(with_drawn_counts(&battle, player, dice))
 }
@@ -277,7 +257,7 @@ fn guesses(
 ) -> Result<Vec<Battle>, ThinkFault> {
     let (mut found, mut refused, mut last) = (Vec::new(), 0, ThinkFault::NoChoice);
     while found.len() < options.guesses.max(1) && refused < TRIES {
-        match guess(player, prior, options, dice) {
+        match guess(player, prior, dice) {
             Ok(battle) if battle.choices(player.side()) == *offered => found.push(battle),
             Ok(_) => refused += 1,
             Err(why) => (refused, last) = (refused + 1, why),

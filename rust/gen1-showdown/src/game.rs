@@ -2,7 +2,9 @@
 use crate::lines::{Heading, LineWriter, Viewer};
 use crate::request::{choice_in, request};
 use crate::{Fault, Hp, Members, Seat, index, player_of, team};
-use gen1::{Battle, Choice, LogBuf, MemberSpec, Outcome, Player, Rules, Side, events_of};
+use gen1::{
+    Battle, Choice, LogBuf, MemberSpec, Outcome, Player, Rules, Side, TurnLimit, events_of,
+};
 use serde::Serialize;
 use serde_json::{Value, json};
 
@@ -58,7 +60,7 @@ impl Game {
     pub fn begin(setup: Setup, time: Option<u64>) -> Result<(Game, String), Fault> {
         let [one, two] = &setup.players;
         let teams = [team(Side::One, &one.1)?, team(Side::Two, &two.1)?];
-        let limit = Default::default();
+        let limit = TurnLimit::default();
         let battle = Battle::with_limit(&teams[0], &teams[1], setup.seed, setup.rules, limit);
         let seats = Side::BOTH.map(|side| {
             let (name, members) = &setup.players[index(side)];
@@ -67,7 +69,9 @@ impl Game {
             // Both know the sizes of the teams (`|teamsize|`).
             let foes = teams[index(side.other())].members().len() as u8;
             let player = Player::with_foes(side, &teams[index(side)], foes);
-            seat.player = player.with_hp(setup.hp.form());
+            seat.player = player
+                .with_hp(setup.hp.form())
+                .with_terms(setup.rules, limit);
             seat
         });
         let lines = LineWriter::new(Heading {

@@ -3,7 +3,7 @@ use crate::words::Hp;
 use crate::{Fault, Members, names_of};
 use gen1::{
     Battle, Choice, Conditions, Event, EventList, HpForm, Kind, LogBuf, Message, MoveId,
-    OfferedMask, OwnSide, Player, Side, Team, Teller, Volatile, events_of, write_log,
+    OfferedMask, OwnSide, Player, Side, Team, Teller, TurnLimit, Volatile, events_of, write_log,
 };
 
 /// A player of a battle. Requests and choices are made only from these fields, which hold nothing that the player may not know.
@@ -74,6 +74,8 @@ impl Seat {
     pub fn tell(&mut self, battle: &Battle, log: &[u8]) -> Result<(), Fault> {
         let told = self.teller.tell_log(log)?;
         let offered = battle.offered_mask(self.side);
+        let limit = TurnLimit::new(battle.limit()).unwrap_or_default();
+        self.player = self.player.with_terms(battle.rules(), limit);
         self.take(&told, &battle.own_side(self.side), offered)
     }
 

@@ -116,11 +116,10 @@ impl Simulator {
         Ok(Reply { text, note: None })
     }
 
-    /// What the player of a side knows, and the rules of the battle, while the side has to choose: for a bot.
+    /// What the player of a side knows, while the side has to choose: for a bot.
     #[must_use]
-    pub fn to_choose(&self, side: Side) -> Option<(&Player, Rules)> {
-        let player = self.game.as_ref()?.to_choose(side)?;
-        Some((player, self.format.as_ref()?.rules))
+    pub fn to_choose(&self, side: Side) -> Option<&Player> {
+        self.game.as_ref()?.to_choose(side)
     }
 
     /// Makes a choice of a side, as the command `>p1 CHOICE` does. One that the side is not offered now does nothing.
@@ -129,7 +128,7 @@ impl Simulator {
     ///
     /// The battle refuses the pair of choices, which is not known to happen.
     pub fn choose(&mut self, side: Side, choice: Choice) -> Result<Reply, Fault> {
-        let is_offered = |(player, _): (&Player, _)| player.choices().contains(&choice);
+        let is_offered = |player: &Player| player.choices().contains(&choice);
         if !self.to_choose(side).is_some_and(is_offered) {
             return Ok(Reply::default());
         }

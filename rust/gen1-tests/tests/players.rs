@@ -9,6 +9,7 @@
 //! - `following`: a view that follows log bytes
 //! - `hosts`: tables
 //! - `own_sides`: what a side is shown of itself
+//! - `public`: what each event makes public
 //! - `players`: what a player knows
 //! - `rooms`: rooms
 //! - `plain_rooms`: rooms that their caller keeps, and forfeits
@@ -1121,25 +1122,301 @@ mod plain_rooms {
 
 #[cfg(test)]
 mod players {
-    //! A player's knowledge ([docs/MECHANICS.md, "Player's view"](https://hibsuloy.example/gen1/blob/main/docs/MECHANICS.md#players-view), "What a side is told", "What the log makes public"): what each event makes
-    //! public, what is reported to a side, and a player that is fed log bytes. Side 1 sends out Tauros (128, Normal), side 2 Starmie (121,
-    //! Water and Psychic).
+    //! A player's knowledge ([docs/MECHANICS.md, "Player's view"](https://hibsuloy.example/gen1/blob/main/docs/MECHANICS.md#players-view), "What a side is told"): what is reported to a side, and a player that is fed
+    //! log bytes. Side 1 sends out Tauros (128, Normal), side 2 Starmie (121, Water and Psychic).
     use crate::comparing::assert_same;
+    use crate::events::Tell::{ClearAll, Damage, Heal, Move, Switch, Turn};
+    use crate::events::{CHANSEY, ONE, STARMIE, TAUROS, TWO, Tell, event};
+    use crate::public::OUT;
+    use crate::teams::{lead_and_chansey, terms_in};
+    use gen1::generated::events::{LogBuf, LogFault, write};
+    use gen1::generated::machine::{DamageSource, Kind};
+    use gen1::generated::player::{HpForm, Player, Seen, Teller};
+    use gen1_tests::testing::Abort;
+    use gen1_tests::testing::Fail;
+
+    /// An event, and the event that is reported to side 1.
+    type Telling = (Tell, Tell);
+
+    // The places of side 2 are counted in the order in which they appear.
+    static BY_APPEARANCE: [Telling; 10] = [
+        (
+            Switch(TWO, STARMIE, 3, 323, 323, None),
+            Switch(TWO, STARMIE, 1, 323, 323, None),
+        ),
+        (
+            Switch(TWO, STARMIE, 5, 323, 323, None),
+            Switch(TWO, STARMIE, 2, 323, 323, None),
+        ),
+        (
+            Switch(TWO, STARMIE, 3, 323, 323, None),
+            Switch(TWO, STARMIE, 1, 323, 323, None),
+        ),
+        (
+            Switch(TWO, STARMIE, 1, 323, 323, None),
+            Switch(TWO, STARMIE, 3, 323, 323, None),
+        ),
+        (
+            Switch(TWO, STARMIE, 5, 323, 323, None),
+            Switch(TWO, STARMIE, 2, 323, 323, None),
+        ),
+        (
+            Switch(TWO, STARMIE, 6, 323, 323, None),
+            Switch(TWO, STARMIE, 4, 323, 323, None),
+        ),
+        (
+            Switch(TWO, STARMIE, 2, 323, 323, None),
+            Switch(TWO, STARMIE, 5, 323, 323, None),
+        ),
+        (
+            Switch(TWO, STARMIE, 4, 323, 323, None),
+            Switch(TWO, STARMIE, 6, 323, 323, None),
+        ),
+        (
+            Switch(TWO, STARMIE, 1, 323, 323, None),
+            Switch(TWO, STARMIE, 3, 323, 323, None),
+        ),
+        (
+            Switch(ONE, TAUROS, 4, 323, 323, None),
+            Switch(ONE, TAUROS, 4, 323, 323, None),
+        ),
+    ];
+
+    // Above 255 both are divided by 4 first: 12 * 322 / 80 is 48.3, 12 * 266 / 80 is 39.9, 12 * 6 / 80 is 0.9. 48 * 254 / 255 is 47.8.
+    static BAR: [Telling; 12] = [
+        (
+            Damage(TWO, 323, 323, DamageSource::Direct),
+            Damage(TWO, 48, 48, DamageSource::Direct),
+        ),
+        (
+            Damage(TWO, 322, 323, DamageSource::Direct),
+            Damage(TWO, 48, 48, DamageSource::Direct),
+        ),
+        (
+            Damage(TWO, 266, 323, DamageSource::Direct),
+            Damage(TWO, 39, 48, DamageSource::Direct),
+        ),
+        (
+            Damage(TWO, 254, 255, DamageSource::Direct),
+            Damage(TWO, 47, 48, DamageSource::Direct),
+        ),
+        (
+            Damage(TWO, 162, 323, DamageSource::Direct),
+            Damage(TWO, 24, 48, DamageSource::Direct),
+        ),
+        (
+            Damage(TWO, 7, 323, DamageSource::Direct),
+            Damage(TWO, 1, 48, DamageSource::Direct),
+        ),
+        (
+            Damage(TWO, 6, 323, DamageSource::Direct),
+            Damage(TWO, 1, 48, DamageSource::Direct),
+        ),
+        (
+            Damage(TWO, 1, 323, DamageSource::Direct),
+            Damage(TWO, 1, 48, DamageSource::Direct),
+        ),
+        (
+            Damage(TWO, 0, 323, DamageSource::Direct),
+            Damage(TWO, 0, 48, DamageSource::Direct),
+        ),
+        (
+            Damage(ONE, 100, 353, DamageSource::Direct),
+            Damage(ONE, 100, 353, DamageSource::Direct),
+        ),
+        (
+            Heal(TWO, 161, 323, Some(Kind::Sleep)),
+            Heal(TWO, 24, 48, Some(Kind::Sleep)),
+        ),
+        (
+            Switch(TWO, STARMIE, 6, 7, 703, None),
+            Switch(TWO, STARMIE, 1, 1, 48, None),
+        ),
+    ];
+
+    // 100 * 322 / 323 is 99.7, 100 * 162 / 323 is 50.2, 100 * 1 / 323 is 0.3, 100 * 161 / 323 is 49.8.
+    static HUNDREDTHS: [Telling; 7] = [
+        (
+            Damage(TWO, 323, 323, DamageSource::Direct),
+            Damage(TWO, 100, 100, DamageSource::Direct),
+        ),
+        (
+            Damage(TWO, 322, 323, DamageSource::Direct),
+            Damage(TWO, 99, 100, DamageSource::Direct),
+        ),
+        (
+            Damage(TWO, 162, 323, DamageSource::Direct),
+            Damage(TWO, 51, 100, DamageSource::Direct),
+        ),
+        (
+            Damage(TWO, 1, 323, DamageSource::Direct),
+            Damage(TWO, 1, 100, DamageSource::Direct),
+        ),
+        (
+            Damage(TWO, 0, 323, DamageSource::Direct),
+            Damage(TWO, 0, 100, DamageSource::Direct),
+        ),
+        (
+            Damage(ONE, 100, 353, DamageSource::Direct),
+            Damage(ONE, 100, 353, DamageSource::Direct),
+        ),
+        (
+            Heal(TWO, 161, 323, Some(Kind::Sleep)),
+            Heal(TWO, 50, 100, Some(Kind::Sleep)),
+        ),
+    ];
+
+    // Tells each event, and returns the places that have appeared.
+    fn tell(rt: &impl Abort, form: HpForm, rows: &[Telling]) -> Result<[u8; 6], Fail> {
+        let mut teller = Teller::new(ONE, form);
+        for (number, (whole, told)) in rows.iter().enumerate() {
+            let found = teller.tell(&event(*whole, OUT)?);
+            assert_eq!(found, event(*told, OUT)?, "at {number}");
+        }
+        Ok(teller.places)
+    }
+
+    #[test]
+    fn what_a_side_is_told() -> Result<(), Fail> { let rt = gen1_tests::testing::HostRuntime;
+        assert_same(
+            &rt,
+            tell(&rt, HpForm::Exact, &BY_APPEARANCE)?,
+            [3, 5, 1, 6, 2, 4],
+        );
+        tell(&rt, HpForm::Bar, &BAR)?;
+        tell(&rt, HpForm::Hundredths, &HUNDREDTHS)?;
+        Ok(())
+    }
+
+    // The log bytes of some events.
+    fn log_of(tells: &[Tell]) -> Result<LogBuf, Fail> {
+        let mut log = LogBuf::new();
+        for tell in tells {
+            let _fits = write(&event(*tell, OUT)?, &mut log);
+        }
+        Ok(log)
+    }
+
+    #[test]
+    fn an_update_is_told_in_log_bytes() -> Result<(), Fail> { let rt = gen1_tests::testing::HostRuntime;
+        let mut teller = Teller::new(ONE, HpForm::Bar);
+        let log = log_of(&[
+            Switch(ONE, TAUROS, 2, 353, 353, None),
+            Switch(TWO, STARMIE, 5, 323, 323, None),
+            Damage(TWO, 6, 323, DamageSource::Direct),
+            ClearAll,
+        ])?;
+        let told = log_of(&[
+            Switch(ONE, TAUROS, 2, 353, 353, None),
+            Switch(TWO, STARMIE, 1, 48, 48, None),
+            Damage(TWO, 1, 48, DamageSource::Direct),
+            ClearAll,
+        ])?;
+        assert_same(&rt, teller.tell_log(log.as_slice()), Ok(told));
+        assert_same(&rt, teller.places, [5, 0, 0, 0, 0, 0]);
+        Ok(())
+    }
+
+    #[test]
+    fn what_is_not_a_log_is_not_told() -> Result<(), Fail> { let rt = gen1_tests::testing::HostRuntime;
+        let mut teller = Teller::new(TWO, HpForm::Exact);
+        // A switch of side 1 to its Tauros at place 4, level 100, with 353 of 353 HP, without the byte of its status.
+        let cut = [2, 1, 128, 4, 100, 0x61, 1, 0x61, 1];
+        assert_same(&rt, teller.tell_log(&cut), Err(LogFault::Truncated));
+        assert_same(
+            &rt,
+            teller.tell_log(&[0x1B, 0x1D]),
+            Err(LogFault::UnknownTag),
+        );
+        assert_same(&rt, teller, Teller::new(TWO, HpForm::Exact));
+        Ok(())
+    }
+
+    #[test]
+    fn a_player_knows_its_own_team_and_nothing_of_the_foe() -> Result<(), Fail> { let rt = gen1_tests::testing::HostRuntime;
+        let terms = terms_in(HpForm::Hundredths, 0)?;
+        let player = Player::new(ONE, &lead_and_chansey(&["Strength"])?, &terms);
+        let lead = player.public.one.member(1);
+        assert_same(&rt, (lead.species, lead.hp, lead.max), (TAUROS, 353, 353));
+        let other: Seen = player.public.one.member(2);
+        assert_same(
+            &rt,
+            (other.species, other.hp, other.level),
+            (CHANSEY, 703, 100),
+        );
+        assert_same(&rt, player.public.one.member(3).species, 0);
+        assert_same(&rt, player.public.two.member(1).species, 0);
+        assert_same(&rt, (player.side, player.foes, player.offered), (1, 0, 0));
+        assert_same(
+            &rt,
+            (player.rules, player.limit, player.hp_form),
+            (1, 250, 2),
+        );
+        Ok(())
+    }
+
+    #[test]
+    fn a_player_is_fed_however_its_log_is_cut() -> Result<(), Fail> { let rt = gen1_tests::testing::HostRuntime;
+        let team = lead_and_chansey(&["Strength"])?;
+        let log = log_of(&[
+            Switch(ONE, TAUROS, 1, 353, 353, None),
+            Switch(TWO, STARMIE, 1, 48, 48, None),
+            Turn(1),
+            Move(TWO, 57),
+        ])?;
+        let terms = terms_in(HpForm::Bar, 6)?;
+        for cut in 0..=log.len() {
+            let mut player = Player::new(ONE, &team, &terms);
+            assert_same(&rt, player.feed(&log.as_slice()[..cut]), Ok(()));
+            assert_same(&rt, player.feed(&log.as_slice()[cut..]), Ok(()));
+            assert_same(
+                &rt,
+                (player.public.turn, player.public.two.last_move),
+                (1, 57),
+            );
+            assert_same(
+                &rt,
+                (player.public.two.member(1).max, player.held_count),
+                (48, 0),
+            );
+        }
+        Ok(())
+    }
+
+    #[test]
+    fn a_fault_changes_nothing_of_a_player() -> Result<(), Fail> { let rt = gen1_tests::testing::HostRuntime;
+        let terms = terms_in(HpForm::Bar, 0)?;
+        let mut player = Player::new(TWO, &lead_and_chansey(&["Strength"])?, &terms);
+        assert_same(&rt, player.feed(&[0x01, 7]), Ok(()));
+        assert_same(
+            &rt,
+            player.feed(&[0, 0x1C, 2, 0xFF]),
+            Err(LogFault::UnknownTag),
+        );
+        assert_same(&rt, (player.public.turn, player.held_count), (0, 2));
+        assert_same(&rt, player.feed(&[0]), Ok(()));
+        assert_same(&rt, (player.public.turn, player.held_count), (7, 0));
+        Ok(())
+    }
+}
+
+#[cfg(test)]
+mod public {
+    //! What each event makes public ([docs/MECHANICS.md, "What the log makes public"](https://hibsuloy.example/gen1/blob/main/docs/MECHANICS.md#what-the-log-makes-public)). Side 1 sends out Tauros (128, Normal), side 2 Starmie
+    //! (121, Water and Psychic).
     use crate::events::Tell::{
         Activate, Boost, Cant, ClearAll, Cure, Damage, End, Faint, Fault, Heal, Move, MustRecharge,
         Prepare, Start, Status, Switch, Tie, Turn, Unboost, Win,
     };
     use crate::events::{CHANSEY, ONE, STARMIE, TAUROS, TWO, Tell, event};
-    use crate::teams::lead_and_chansey;
-    use gen1::generated::events::{LogBuf, LogFault, write};
     use gen1::generated::machine::{CantReason, DamageSource, Kind, Side, Volatile};
-    use gen1::generated::player::{HpForm, Player, Public, PublicSide, Seen, Teller};
+    use gen1::generated::player::{Public, PublicSide, Seen};
     use gen1::generated::tables::Stat;
     use gen1_tests::testing::Abort;
     use gen1_tests::testing::Fail;
 
     // The species that are out.
-    const OUT: [u8; 2] = [TAUROS, STARMIE];
+    pub const OUT: [u8; 2] = [TAUROS, STARMIE];
 
     /// A name, and events with what is public after them.
     #[derive(Clone, Copy)]
@@ -1718,268 +1995,6 @@ mod players {
         }
         false
     }
-
-    /// An event, and the event that is reported to side 1.
-    type Telling = (Tell, Tell);
-
-    // The places of side 2 are counted in the order in which they appear.
-    static BY_APPEARANCE: [Telling; 10] = [
-        (
-            Switch(TWO, STARMIE, 3, 323, 323, None),
-            Switch(TWO, STARMIE, 1, 323, 323, None),
-        ),
-        (
-            Switch(TWO, STARMIE, 5, 323, 323, None),
-            Switch(TWO, STARMIE, 2, 323, 323, None),
-        ),
-        (
-            Switch(TWO, STARMIE, 3, 323, 323, None),
-            Switch(TWO, STARMIE, 1, 323, 323, None),
-        ),
-        (
-            Switch(TWO, STARMIE, 1, 323, 323, None),
-            Switch(TWO, STARMIE, 3, 323, 323, None),
-        ),
-        (
-            Switch(TWO, STARMIE, 5, 323, 323, None),
-            Switch(TWO, STARMIE, 2, 323, 323, None),
-        ),
-        (
-            Switch(TWO, STARMIE, 6, 323, 323, None),
-            Switch(TWO, STARMIE, 4, 323, 323, None),
-        ),
-        (
-            Switch(TWO, STARMIE, 2, 323, 323, None),
-            Switch(TWO, STARMIE, 5, 323, 323, None),
-        ),
-        (
-            Switch(TWO, STARMIE, 4, 323, 323, None),
-            Switch(TWO, STARMIE, 6, 323, 323, None),
-        ),
-        (
-            Switch(TWO, STARMIE, 1, 323, 323, None),
-            Switch(TWO, STARMIE, 3, 323, 323, None),
-        ),
-        (
-            Switch(ONE, TAUROS, 4, 323, 323, None),
-            Switch(ONE, TAUROS, 4, 323, 323, None),
-        ),
-    ];
-
-    // Above 255 both are divided by 4 first: 12 * 322 / 80 is 48.3, 12 * 266 / 80 is 39.9, 12 * 6 / 80 is 0.9. 48 * 254 / 255 is 47.8.
-    static BAR: [Telling; 12] = [
-        (
-            Damage(TWO, 323, 323, DamageSource::Direct),
-            Damage(TWO, 48, 48, DamageSource::Direct),
-        ),
-        (
-            Damage(TWO, 322, 323, DamageSource::Direct),
-            Damage(TWO, 48, 48, DamageSource::Direct),
-        ),
-        (
-            Damage(TWO, 266, 323, DamageSource::Direct),
-            Damage(TWO, 39, 48, DamageSource::Direct),
-        ),
-        (
-            Damage(TWO, 254, 255, DamageSource::Direct),
-            Damage(TWO, 47, 48, DamageSource::Direct),
-        ),
-        (
-            Damage(TWO, 162, 323, DamageSource::Direct),
-            Damage(TWO, 24, 48, DamageSource::Direct),
-        ),
-        (
-            Damage(TWO, 7, 323, DamageSource::Direct),
-            Damage(TWO, 1, 48, DamageSource::Direct),
-        ),
-        (
-            Damage(TWO, 6, 323, DamageSource::Direct),
-            Damage(TWO, 1, 48, DamageSource::Direct),
-        ),
-        (
-            Damage(TWO, 1, 323, DamageSource::Direct),
-            Damage(TWO, 1, 48, DamageSource::Direct),
-        ),
-        (
-            Damage(TWO, 0, 323, DamageSource::Direct),
-            Damage(TWO, 0, 48, DamageSource::Direct),
-        ),
-        (
-            Damage(ONE, 100, 353, DamageSource::Direct),
-            Damage(ONE, 100, 353, DamageSource::Direct),
-        ),
-        (
-            Heal(TWO, 161, 323, Some(Kind::Sleep)),
-            Heal(TWO, 24, 48, Some(Kind::Sleep)),
-        ),
-        (
-            Switch(TWO, STARMIE, 6, 7, 703, None),
-            Switch(TWO, STARMIE, 1, 1, 48, None),
-        ),
-    ];
-
-    // 100 * 322 / 323 is 99.7, 100 * 162 / 323 is 50.2, 100 * 1 / 323 is 0.3, 100 * 161 / 323 is 49.8.
-    static HUNDREDTHS: [Telling; 7] = [
-        (
-            Damage(TWO, 323, 323, DamageSource::Direct),
-            Damage(TWO, 100, 100, DamageSource::Direct),
-        ),
-        (
-            Damage(TWO, 322, 323, DamageSource::Direct),
-            Damage(TWO, 99, 100, DamageSource::Direct),
-        ),
-        (
-            Damage(TWO, 162, 323, DamageSource::Direct),
-            Damage(TWO, 51, 100, DamageSource::Direct),
-        ),
-        (
-            Damage(TWO, 1, 323, DamageSource::Direct),
-            Damage(TWO, 1, 100, DamageSource::Direct),
-        ),
-        (
-            Damage(TWO, 0, 323, DamageSource::Direct),
-            Damage(TWO, 0, 100, DamageSource::Direct),
-        ),
-        (
-            Damage(ONE, 100, 353, DamageSource::Direct),
-            Damage(ONE, 100, 353, DamageSource::Direct),
-        ),
-        (
-            Heal(TWO, 161, 323, Some(Kind::Sleep)),
-            Heal(TWO, 50, 100, Some(Kind::Sleep)),
-        ),
-    ];
-
-    // Tells each event, and returns the places that have appeared.
-    fn tell(rt: &impl Abort, form: HpForm, rows: &[Telling]) -> Result<[u8; 6], Fail> {
-        let mut teller = Teller::new(ONE, form);
-        for (number, (whole, told)) in rows.iter().enumerate() {
-            let found = teller.tell(&event(*whole, OUT)?);
-            assert_eq!(found, event(*told, OUT)?, "at {number}");
-        }
-        Ok(teller.places)
-    }
-
-    #[test]
-    fn what_a_side_is_told() -> Result<(), Fail> { let rt = gen1_tests::testing::HostRuntime;
-        assert_same(
-            &rt,
-            tell(&rt, HpForm::Exact, &BY_APPEARANCE)?,
-            [3, 5, 1, 6, 2, 4],
-        );
-        tell(&rt, HpForm::Bar, &BAR)?;
-        tell(&rt, HpForm::Hundredths, &HUNDREDTHS)?;
-        Ok(())
-    }
-
-    // The log bytes of some events.
-    fn log_of(tells: &[Tell]) -> Result<LogBuf, Fail> {
-        let mut log = LogBuf::new();
-        for tell in tells {
-            let _fits = write(&event(*tell, OUT)?, &mut log);
-        }
-        Ok(log)
-    }
-
-    #[test]
-    fn an_update_is_told_in_log_bytes() -> Result<(), Fail> { let rt = gen1_tests::testing::HostRuntime;
-        let mut teller = Teller::new(ONE, HpForm::Bar);
-        let log = log_of(&[
-            Switch(ONE, TAUROS, 2, 353, 353, None),
-            Switch(TWO, STARMIE, 5, 323, 323, None),
-            Damage(TWO, 6, 323, DamageSource::Direct),
-            ClearAll,
-        ])?;
-        let told = log_of(&[
-            Switch(ONE, TAUROS, 2, 353, 353, None),
-            Switch(TWO, STARMIE, 1, 48, 48, None),
-            Damage(TWO, 1, 48, DamageSource::Direct),
-            ClearAll,
-        ])?;
-        assert_same(&rt, teller.tell_log(log.as_slice()), Ok(told));
-        assert_same(&rt, teller.places, [5, 0, 0, 0, 0, 0]);
-        Ok(())
-    }
-
-    #[test]
-    fn what_is_not_a_log_is_not_told() -> Result<(), Fail> { let rt = gen1_tests::testing::HostRuntime;
-        let mut teller = Teller::new(TWO, HpForm::Exact);
-        // A switch of side 1 to its Tauros at place 4, level 100, with 353 of 353 HP, without the byte of its status.
-        let cut = [2, 1, 128, 4, 100, 0x61, 1, 0x61, 1];
-        assert_same(&rt, teller.tell_log(&cut), Err(LogFault::Truncated));
-        assert_same(
-            &rt,
-            teller.tell_log(&[0x1B, 0x1D]),
-            Err(LogFault::UnknownTag),
-        );
-        assert_same(&rt, teller, Teller::new(TWO, HpForm::Exact));
-        Ok(())
-    }
-
-    #[test]
-    fn a_player_knows_its_own_team_and_nothing_of_the_foe() -> Result<(), Fail> { let rt = gen1_tests::testing::HostRuntime;
-        let player = Player::new(
-            ONE,
-            &lead_and_chansey(&["Strength"])?,
-            0,
-            HpForm::Hundredths,
-        );
-        let lead = player.public.one.member(1);
-        assert_same(&rt, (lead.species, lead.hp, lead.max), (TAUROS, 353, 353));
-        let other: Seen = player.public.one.member(2);
-        assert_same(
-            &rt,
-            (other.species, other.hp, other.level),
-            (CHANSEY, 703, 100),
-        );
-        assert_same(&rt, player.public.one.member(3).species, 0);
-        assert_same(&rt, player.public.two.member(1).species, 0);
-        assert_same(&rt, (player.side, player.foes, player.offered), (1, 0, 0));
-        assert_same(&rt, player.hp_form, 2);
-        Ok(())
-    }
-
-    #[test]
-    fn a_player_is_fed_however_its_log_is_cut() -> Result<(), Fail> { let rt = gen1_tests::testing::HostRuntime;
-        let team = lead_and_chansey(&["Strength"])?;
-        let log = log_of(&[
-            Switch(ONE, TAUROS, 1, 353, 353, None),
-            Switch(TWO, STARMIE, 1, 48, 48, None),
-            Turn(1),
-            Move(TWO, 57),
-        ])?;
-        for cut in 0..=log.len() {
-            let mut player = Player::new(ONE, &team, 6, HpForm::Bar);
-            assert_same(&rt, player.feed(&log.as_slice()[..cut]), Ok(()));
-            assert_same(&rt, player.feed(&log.as_slice()[cut..]), Ok(()));
-            assert_same(
-                &rt,
-                (player.public.turn, player.public.two.last_move),
-                (1, 57),
-            );
-            assert_same(
-                &rt,
-                (player.public.two.member(1).max, player.held_count),
-                (48, 0),
-            );
-        }
-        Ok(())
-    }
-
-    #[test]
-    fn a_fault_changes_nothing_of_a_player() -> Result<(), Fail> { let rt = gen1_tests::testing::HostRuntime;
-        let mut player = Player::new(TWO, &lead_and_chansey(&["Strength"])?, 0, HpForm::Bar);
-        assert_same(&rt, player.feed(&[0x01, 7]), Ok(()));
-        assert_same(
-            &rt,
-            player.feed(&[0, 0x1C, 2, 0xFF]),
-            Err(LogFault::UnknownTag),
-        );
-        assert_same(&rt, (player.public.turn, player.held_count), (0, 2));
-        assert_same(&rt, player.feed(&[0]), Ok(()));
-        assert_same(&rt, (player.public.turn, player.held_count), (7, 0));
-        Ok(())
-    }
 }
 
 #[cfg(test)]
@@ -2222,6 +2237,8 @@ mod rooms {
 mod teams {
     //! Teams for the tests. At level 100, with DVs of 15 and all experience, Tauros has 353 HP and Chansey 703.
     use arrayvec::ArrayVec;
+    use gen1::generated::machine::{Rules, TurnLimit};
+    use gen1::generated::player::{HpForm, PlayerTerms};
     use gen1::generated::stats::{MemberSpec, Team};
     use gen1::generated::tables::{MoveId, Species};
     use gen1_tests::testing::Fail;
@@ -2261,6 +2278,16 @@ mod teams {
         let lead = member("Tauros", moves)?;
         let other = member("Chansey", &["Strength"])?;
         Ok(Team::new(&[lead, other])?)
+    }
+
+    /// The terms of a player in a battle of 250 turns with the sleep clause.
+    pub(crate) fn terms_in(hp_form: HpForm, foes: u8) -> Result<PlayerTerms, Fail> {
+        Ok(PlayerTerms {
+            rules: Rules::new(1).ok_or("no such rules")?,
+            limit: TurnLimit::new(250).ok_or("no such limit")?,
+            foes,
+            hp_form,
+        })
     }
 }
 

@@ -1,7 +1,7 @@
 //! Battles that fit a player's knowledge, for searches that don't cheat.
 use crate::from_state::StateFault;
 use crate::generated::guesses;
-use crate::{Battle, MoveId, Player, Rules, Seen, Team, TurnLimit};
+use crate::{Battle, MoveId, Player, Seen, Team};
 use core::fmt;
 
 /// A guess of what a player can't know.
@@ -14,22 +14,13 @@ pub struct Guess {
     pub team: Team,
     /// The ten link numbers; the first of them is drawn next.
     pub numbers: [u8; 10],
-    /// The rules of the battle.
-    pub rules: Rules,
-    /// The last turn.
-    pub limit: TurnLimit,
 }
 
 impl Guess {
-    /// A guess of the foe's team and of the numbers to be drawn, with no rules and a turn limit of 1,000.
+    /// A guess of the foe's team and of the numbers to be drawn.
     #[must_use]
     pub fn new(team: Team, numbers: [u8; 10]) -> Self {
-        Guess {
-            team,
-            numbers,
-            rules: Rules::default(),
-            limit: TurnLimit::default(),
-        }
+        Guess { team, numbers }
     }
 }
 
@@ -85,7 +76,7 @@ impl core::error::Error for GuessFault {}
 impl Battle {
     /// A battle that fits a player's knowledge, with a guess of the rest: the base of a search that doesn't cheat.
     ///
-    /// The player's own side is as it was shown, the foe's as the log made it public, with the moves and stats of the guess. Hidden counts
+    /// Rules and turn limit are those that the player knows. Its own side is as it was shown, the foe's as the log made it public, with the moves and stats of the guess. Hidden counts
     /// have middle values (docs/MECHANICS.md, "A battle that fits").
     ///
     /// ```
@@ -114,8 +105,6 @@ impl Battle {
         let plain = guesses::Guess {
             team: guess.team.clone(),
             numbers: guess.numbers,
-            rules: guess.rules,
-            limit: guess.limit,
         };
         match guesses::from_player(player.plain(), &plain) {
             Ok(packed) => Ok(Battle { packed }),

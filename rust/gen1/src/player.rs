@@ -1,6 +1,9 @@
 //! The knowledge that one side of a battle may have.
 use crate::generated::player::{self as plain, HpForm, OwnSide, Public, PublicSide};
-use crate::{Battle, Choice, Event, LogBuf, LogFault, OfferedMask, Outcome, Request, Side, Team};
+use crate::{
+    Battle, Choice, Event, LogBuf, LogFault, OfferedMask, Outcome, Request, Rules, Side, Team,
+    TurnLimit,
+};
 use core::fmt;
 
 /// The knowledge that one side of a battle may have ([docs/MECHANICS.md, "Player's view"][view]): its own side in full, and the part of
@@ -8,7 +11,7 @@ use core::fmt;
 ///
 /// [view]: https://hibsuloy.example/gen1/blob/main/docs/MECHANICS.md#players-view
 ///
-/// A player is computed from its own team, the log that the [`Teller`] of its side returns, its own side as it is shown
+/// A player is computed from its own team, the battle's rules and turn limit, the log that the [`Teller`] of its side returns, its own side as it is shown
 /// ([`Battle::own_side`]) and its choices, and from nothing else. No stat, DV, PP or hidden count of the foe, and no number to be drawn,
 /// reaches it. Pass it to a bot in place of the [`Battle`].
 ///
@@ -43,7 +46,8 @@ pub struct Player {
 
 impl Player {
     /// The player of a side before the first update. It knows its own team, and nothing about the foe. The HP of the foe's members is
-    /// reported to it as [`Teller::new`] does, unless [`Player::with_hp`] or [`Teller::report`] changes that.
+    /// reported to it as [`Teller::new`] does, and the battle has no rules and a turn limit of 1,000, unless [`Player::with_hp`],
+    /// [`Player::with_terms`] or [`Teller::report`] changes that.
     #[must_use]
     pub fn new(side: Side, team: &Team) -> Self {
         Self::with_foes(side, team, 0)
@@ -52,7 +56,13 @@ impl Player {
     /// Like [`Player::new`], with the number of the foe's members, 1 to 6, if the players know it. A larger number counts as 6.
     #[must_use]
     pub fn with_foes(side: Side, team: &Team, foes: u8) -> Self {
-        let inner = plain::Player::new(side, team, foes.min(6), HpForm::Bar);
+        let terms = plain::PlayerTerms {
+            rules: Rules::default(),
+            limit: TurnLimit::default(),
+            foes: foes.min(6),
+            hp_form: HpForm::Bar,
+        };
+        let inner = plain::Player::new(side, team, &terms);
         Player { inner, side }
     }
 
@@ -69,11 +79,32 @@ impl Player {
         HpForm::of_number(self.inner.hp_form)
     }
 
+    /// This player, in a battle with these rules and this turn limit.
+    #[must_use]
+    pub fn with_terms(mut self, rules: Rules, limit: TurnLimit) -> Self {
+        (self.inner.rules, self.inner.limit) = (rules.bits(), limit.number());
+        self
+    }
+
+    /// The rules of the battle.
+    #[must_use]
+    pub fn rules(&self) -> Rules {
+        Rules::new(self.inner.rules).unwrap_or_default()
+    }
+
+    /// The turn limit of the battle, 1 to 9,999.
+    #[must_use]
+    pub fn limit(&self) -> u16 {
+        self.inner.limit
+    }
+
     /// The player that C keeps as `gen1_player` (include/gen1.h); `None` if its numbers are not those of a player.
     #[doc(hidden)]
     #[must_use]
     pub fn from_plain(inner: plain::Player) -> Option<Self> {
         let side = Side::from_number(inner.side)?;
+        Rules::new(inner.rules)?;
+        TurnLimit::new(inner.limit)?;
         (inner.foes <= 6 && inner.hp_form <= 2).then_some(Player { inner, side })
     }
 
@@ -249,7 +280,7 @@ impl Teller {
     }
 
     /// Reports the log of an update to a player, and shows it its own side and its choices in the current battle. The player's form of HP
-    /// becomes the teller's.
+    /// becomes the teller's, and its rules and turn limit those of the battle.
     ///
     /// # Errors
     ///
@@ -269,6 +300,7 @@ impl Teller {
             return Err(ReportFault::OtherTeam);
         }
         let (mut teller, mut informed) = (*self, player.with_hp(self.hp_form()));
+        (informed.inner.rules, informed.inner.limit) = (battle.rules().bits(), battle.limit());
         informed.feed(&teller.tell_log(log)?)?;
         informed.show(&own, battle.offered_mask(self.side));
         let begins_turn = battle.result().request(self.side) == Request::Move;

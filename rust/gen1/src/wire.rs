@@ -153,7 +153,9 @@ structs! {
         members ANY, announced ANY, stages 12, place 6, first_type 14, second_type 14, last_move 165, invulnerable 1, unused 0,
     }
     Public { one ANY, two ANY, turn 9999, outcome 5, may_hit_itself 2 }
-    PlainPlayer { public ANY, own ANY, offered 0xfff, side 2, foes 6, held_count 9, held 255, hp_form 2 }
+    PlainPlayer {
+        public ANY, own ANY, offered 0xfff, limit 9999, side 2, foes 6, rules 3, hp_form 2, held_count 9, held 255, unused 0,
+    }
     PlainTeller { side 2, pixels 2, places 6 }
     PlainMember { hp 999, status 5, reserved 0 }
     PlainSide {
@@ -258,7 +260,7 @@ impl Notice {
 
 impl Player {
     /// How many bytes a player has.
-    pub const LENGTH: usize = 484;
+    pub const LENGTH: usize = 488;
 
     /// The bytes of the `gen1_player`: everything that the side may know.
     #[must_use]
@@ -280,6 +282,7 @@ impl Player {
                 test_own(from, &it.own);
             }
             from.within("offered", OfferedMask::from_bits(it.offered).is_some());
+            from.within("limit", it.limit > 0);
             from.within("side", it.side > 0);
             test_held(from, &it.held, it.held_count);
         })?;

@@ -1,8 +1,8 @@
 //! Players: battles of a player's view are accepted and offer the same, and nothing hidden reaches a player.
 use gen1::{
-    AsleepBy, Battle, Choice, Conditions, DamageSource, Event, Guess, GuessFault, HpForm, LogBuf,
-    LogFault, MemberSpec, MoveId, Player, ReportFault, Side, Species, State, Team, Teller,
-    UsedMove, Volatile, Who, member,
+    AsleepBy, Battle, Choice, Conditions, DamageSource, Event, Guess, GuessFault, Host, HpForm,
+    LogBuf, LogFault, MemberSpec, MoveId, Player, ReportFault, Rules, Side, Species, State, Team,
+    Teller, TurnLimit, UsedMove, Volatile, Who, member,
 };
 
 /// Knuth's generator: the upper bits of its states.
@@ -138,7 +138,9 @@ fn a_battle_of_a_players_view_offers_the_same() {
         let specs: [Vec<MemberSpec>; 2] =
             std::array::from_fn(|_| (0..1 + dice.below(6)).map(|_| dice.member()).collect());
         let teams = [0, 1].map(|at| Team::new(&specs[at]).unwrap());
-        let mut battle = Battle::new(&teams[0], &teams[1], dice.numbers());
+        let rules = Rules::new(round % 4).unwrap();
+        let limit = TurnLimit::new(200 + u16::from(round)).unwrap();
+        let mut battle = Battle::with_limit(&teams[0], &teams[1], dice.numbers(), rules, limit);
         let mut tellers = Side::BOTH.map(|side| Teller::with_hp(side, form));
         let mut players = [0, 1].map(|at| Player::new(Side::BOTH[at], &teams[at]).with_hp(form));
         let mut foes = [1, 0].map(|at| Appearance {
@@ -163,6 +165,7 @@ fn a_battle_of_a_players_view_offers_the_same() {
                 let copy = Battle::from_player(&players[at], &guess)
                     .unwrap_or_else(|fault| panic!("{fault}: {state:#?}"));
                 assert_eq!(copy.choices(Side::BOTH[at]), battle.choices(Side::BOTH[at]));
+                assert_eq!((copy.rules(), copy.limit()), (rules, limit.number()));
                 let copied = copy.state();
                 for side in 0..2 {
                     for (own, member) in copied.sides[side]
@@ -190,6 +193,29 @@ fn a_battle_of_a_players_view_offers_the_same() {
         }
     }
     assert!(seen > 3000, "{seen} views");
+}
+
+#[test]
+fn a_player_is_given_rules_and_turn_limit() {
+    let team = Team::new(&[member("Tauros", &["Body Slam"]).unwrap()]).unwrap();
+    let (rules, limit) = (Rules::SLEEP_CLAUSE, TurnLimit::new(20).unwrap());
+    let player = Player::new(Side::One, &team);
+    assert_eq!((player.rules(), player.limit()), (Rules::NONE, 1000));
+    let player = player.with_terms(rules, limit);
+    assert_eq!((player.rules(), player.limit()), (rules, 20));
+    // A report gives it those of the battle.
+    let mut battle = Battle::with_limit(&team, &team, [9; 10], Rules::FREEZE_CLAUSE, limit);
+    let update = battle.update(Choice::Pass, Choice::Pass).unwrap();
+    let (mut told, mut teller) = (player, Teller::new(Side::One));
+    teller.report(&battle, &update.log(), &mut told).unwrap();
+    assert_eq!((told.rules(), told.limit()), (Rules::FREEZE_CLAUSE, 20));
+    // A host's messages leave it those that it was given.
+    let mut host = Host::new(Battle::with_limit(&team, &team, [9; 10], rules, limit));
+    let mut player = player;
+    player.receive(&host.message(Side::One)).unwrap();
+    let guess = Guess::new(team, [7; 10]);
+    let copy = Battle::from_player(&player, &guess).unwrap();
+    assert_eq!((copy.rules(), copy.limit()), (rules, 20));
 }
 
 /// The battle with another foe of side 1: the facts that a player can't know are different.

@@ -170,7 +170,7 @@ fn the_bytes_are_those_of_the_c_structs() {
     let mut room = known_table().room;
     room.forfeit(Side::Two).unwrap();
     assert_eq!(pairs, 25);
-    assert_eq!(hash(all, &room.to_bytes()), 0x6e78_19e1_20c5_9f94);
+    assert_eq!(hash(all, &room.to_bytes()), 0x3895_a045_3eaa_0160);
 }
 
 /// Random battles to their end: at each step a table from bytes is the one that was stored, and continues as it does.
@@ -224,7 +224,16 @@ const OF_A_PLAYER: Cases = {
     const KNOWN: usize = 292;
     const SHOWN: usize = 296;
     &[
-        ("", &[&[], &[(OWN, 0), (OWN + 1, 0)], &[(483, 2)]]),
+        (
+            "",
+            &[
+                &[],
+                &[(OWN, 0), (OWN + 1, 0)],
+                &[(475, 2)],
+                &[(474, 3)],
+                &[(470, 15), (471, 39)],
+            ],
+        ),
         ("hp", &[&[(OWN + 1, 3)], &[(FOE, 255), (FOE + 1, 1)]]),
         (
             "max",
@@ -257,8 +266,13 @@ const OF_A_PLAYER: Cases = {
         ("uses", &[&[(FOE + 16, 1)]]),
         ("asleep_by", &[&[(FOE + 17, 4)]]),
         ("slept", &[&[(FOE + 18, 7)]]),
-        ("unused", &[&[(FOE + 145, 1)], &[(SHOWN + 3, 1)]]),
-        ("hp_form", &[&[(483, 3)]]),
+        (
+            "unused",
+            &[&[(FOE + 145, 1)], &[(SHOWN + 3, 1)], &[(487, 1)]],
+        ),
+        ("hp_form", &[&[(475, 3)]]),
+        ("rules", &[&[(474, 4)]]),
+        ("limit", &[&[(470, 0), (471, 0)], &[(470, 16), (471, 39)]]),
         ("substitute", &[&[(FOE + 120, 2)]]),
         ("toxic_count", &[&[(FOE + 128, 65)]]),
         ("recharging", &[&[(OWN + 133, 2)]]),
@@ -314,9 +328,9 @@ const OF_A_PLAYER: Cases = {
             "held",
             &[
                 &[(SHOWN + 168, 2)],
-                &[(473, 1)],
-                &[(472, 1), (473, 29)],
-                &[(472, 1), (473, 0x1b)],
+                &[(477, 1)],
+                &[(476, 1), (477, 29)],
+                &[(476, 1), (477, 0x1b)],
             ],
         ),
         ("request", &[&[(SHOWN + 169, 3)]]),
@@ -329,9 +343,9 @@ const OF_A_PLAYER: Cases = {
             ],
         ),
         ("offered", &[&[(469, 16)], &[(468, 255), (469, 3)]]),
-        ("side", &[&[(470, 0)], &[(470, 3)]]),
-        ("foes", &[&[(471, 7)]]),
-        ("held_count", &[&[(472, 10)]]),
+        ("side", &[&[(472, 0)], &[(472, 3)]]),
+        ("foes", &[&[(473, 7)]]),
+        ("held_count", &[&[(476, 10)]]),
     ]
 };
 

@@ -1,6 +1,6 @@
 //! Teams, and battles with a guess of the foe's.
 use crate::random::Random;
-use gen1::{Battle, Guess, MemberSpec, Player, Rules, Species, Team, member};
+use gen1::{Battle, Guess, MemberSpec, Player, Species, Team, member};
 
 /// The members to draw from: species, and four moves.
 const MEMBERS: [(&str, [&str; 4]); 12] = [
@@ -100,7 +100,6 @@ pub fn guessed(player: &Player, random: &mut Random) -> Battle {
         .filter_map(|seen| seen.species());
     let count = player.foes().map_or(6, usize::from);
     let team = beginning_with(appeared.collect(), count, random);
-    let mut guess = Guess::new(team, random.seed());
-    guess.rules = Rules::new(3).expect("3 is both clauses");
+    let guess = Guess::new(team, random.seed());
     Battle::from_player(player, &guess).expect("each species has its own moves")
 }

@@ -30,6 +30,7 @@ from gen1._structs import (
     OutcomeOptionsStruct,
     OwnSideStruct,
     PlayerStruct,
+    PlayerTermsStruct,
     PlayoutOptionsStruct,
     PlayoutsStruct,
     RoomStruct,
@@ -83,10 +84,7 @@ class GuessStruct(Structure):
 
     _fields_ = [
         ("team", TeamStruct),
-        ("limit", c_uint16),
         ("numbers", c_uint8 * 10),
-        ("rules", c_uint8),
-        ("reserved", c_uint8),
     ]
 
 
@@ -225,7 +223,7 @@ room_forfeit = bind("gen1_room_forfeit", c_uint8, _ROOM, c_uint8)
 room_result = bind("gen1_room_result", c_uint8, _ROOM)
 spectator_begin = bind("gen1_spectator_begin", c_uint32, _SPECTATOR, _TEAM, _TEAM)
 spectator_feed = bind("gen1_spectator_feed", c_uint8, _SPECTATOR, _BYTES, c_size_t)
-player_begin = bind("gen1_player_begin", c_uint32, _PLAYER, c_uint8, _TEAM, c_uint8, c_uint8)
+player_begin = bind("gen1_player_begin", c_uint32, _PLAYER, c_uint8, _TEAM, POINTER(PlayerTermsStruct))
 player_feed = bind("gen1_player_feed", c_uint8, _PLAYER, _BYTES, c_size_t)
 player_show = bind("gen1_player_show", None, _PLAYER, _OWN, c_uint16)
 get_own_side = bind("gen1_get_own_side", c_uint8, _BATTLE, c_uint8, _OWN)

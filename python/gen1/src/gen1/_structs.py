@@ -398,11 +398,26 @@ class PlayerStruct(Structure):
         ("known", PublicStruct),
         ("own", OwnSideStruct),
         ("offered", c_uint16),
+        ("limit", c_uint16),
         ("side", c_uint8),
         ("foes", c_uint8),
+        ("rules", c_uint8),
+        ("hp_form", c_uint8),
         ("held_count", c_uint8),
         ("held", c_uint8 * 10),
+        ("unused", c_uint8),
+    ]
+
+
+class PlayerTermsStruct(Structure):
+    """gen1_player_terms."""
+
+    _fields_ = [
+        ("limit", c_uint16),
+        ("rules", c_uint8),
+        ("foes", c_uint8),
         ("hp_form", c_uint8),
+        ("reserved", c_uint8),
     ]
 
 
@@ -511,7 +526,18 @@ _MOST: dict[str, dict[str, int]] = {
         },
     },
     "PublicStruct": {"turn": 9999, "outcome": 5, "may_hit_itself": 2},
-    "PlayerStruct": {"offered": 0xFFF, "side": 2, "foes": 6, "held_count": 9, "hp_form": 2},
+    "PlayerStruct": {
+        **{
+            "offered": 0xFFF,
+            "limit": 9999,
+            "side": 2,
+            "foes": 6,
+            "rules": 3,
+            "hp_form": 2,
+            "held_count": 9,
+            "unused": 0,
+        },
+    },
     "TellerStruct": {"side": 2, "pixels": 2, "places": 6},
     "ShownMemberStruct": {"hp": 999, "status": 5, "reserved": 0},
     "ShownSideStruct": {

@@ -182,18 +182,15 @@ class Battle:
         return made
 
     @classmethod
-    def from_player(
-        cls: type[B], player: Player, team: TeamLike, seed: SeedLike, rules: int = 0, limit: int = 1000
-    ) -> B:
+    def from_player(cls: type[B], player: Player, team: TeamLike, seed: SeedLike) -> B:
         """A battle that fits a player's knowledge, with a guess of the rest:
         the base of a search that doesn't cheat.
 
-        `team` is the guess of the foe's team: first the members that have
-        appeared, in the order in which they did, then the others. `seed`
-        has the numbers to draw; `rules` and `limit` are as in `Battle(..)`.
-        The player's own side is as it was shown, the foe's as the log made
-        it public, with the moves and stats of the guess. Hidden counts have
-        middle values (docs/MECHANICS.md, "A battle that fits").
+        `team` is the guess of the foe's: first the members that appeared,
+        in that order, then the others. `seed` has the numbers to draw. The
+        player's own side is as it was shown, the foe's as the log made it
+        public, with moves and stats of the guess. Hidden counts have middle
+        values (docs/MECHANICS.md, "A battle that fits").
 
         Raises `BadArgument` for a guess that does not fit, and for a battle
         that has not begun or is over; `BadState`, `BadTeam`, `BadType`.
@@ -201,7 +198,7 @@ class Battle:
         from gen1.guesses import forked
 
         made = cls.__new__(cls)
-        made._held = forked(player, as_team(team), seed_bytes(seed), rules, limit)
+        made._held = forked(player, as_team(team), seed_bytes(seed))
         return made
 
     @property
@@ -242,9 +239,7 @@ class Battle:
         return result_of(self._held)
 
     def place(self, side: Side | int) -> int:
-        """The place of a side's active member, 1 to 6; 0 before the first
-        update.
-        """
+        """A side's active member's place, 1 to 6; 0 before the first update."""
         return int(struct_of_state(self._held).sides[a_side(side) - 1].active.place)
 
     def choices(self, side: Side | int) -> tuple[Choice, ...]:

@@ -18,19 +18,20 @@ from gen1._structs import (
     LOG_ROOM,
     OwnMemberStruct,
     PlayerStruct,
+    PlayerTermsStruct,
     PublicSideStruct,
     SeenStruct,
     TellerStruct,
     reader,
 )
 from gen1.battle import Battle, TeamLike
-from gen1.choices import Choice, Side, a_side
+from gen1.choices import Choice, Rules, Side, a_side
 from gen1.errors import BadArgument, BadLog, BadTeam, BadType
 from gen1.messages import Message, a_message
 from gen1.names import AsleepBy, HpForm, LogFault, Move, NewFault, Outcome, Request, Species, Stat, Status, Type
 from gen1.own_sides import OwnSide, mask_fault, own_fault, own_side_from
 from gen1.spectators import fault_place, held_fault
-from gen1.states import KEPT, stage_in, stages_of
+from gen1.states import KEPT, stage_in, stages_of, struct_of_state
 from gen1.teams import as_team
 
 if TYPE_CHECKING:
@@ -134,36 +135,44 @@ class Player:
     """The knowledge that one side of a battle may have: its own side in full,
     and the part of the foe's side that the battle has shown.
 
-    A player is computed from its own team, the log that the `Teller` of its
-    side returns, its own side as it is shown (`Battle.own_side`) and its
-    choices, and from nothing else. No stat, DV, PP or hidden count of the
-    foe, and no number to be drawn, reaches it. Pass it to a bot in place of
-    the `Battle`.
+    A player is computed from its own team, the rules and turn limit of the
+    battle, the log that the `Teller` of its side returns, its own side as
+    it is shown (`Battle.own_side`) and its choices, and from nothing else.
+    No stat, DV, PP or hidden count of the foe, and no number to be drawn,
+    reaches it. Pass it to a bot in place of the `Battle`.
 
     Two players are equal if they know the same and hold the same bytes of
-    an incomplete event; a player has no hash. A player must be used by one
-    thread at a time. `bytes` of a player are the 484 bytes of a
-    `gen1_player`, and `from_bytes` is the way back.
+    an incomplete event. A player has no hash, and is used by one thread at
+    a time. `bytes` are the 488 of a `gen1_player`; `from_bytes` reads them.
     """
 
     __slots__ = ("_held",)
     _held: PlayerStruct
 
     def __init__(
-        self, side: Side | int, team: TeamLike, foes: int | None = None, *, hp_form: HpForm | None = None
+        self,
+        side: Side | int,
+        team: TeamLike,
+        foes: int | None = None,
+        *,
+        hp_form: HpForm | None = None,
+        rules: int = 0,
+        limit: int = 1000,
     ) -> None:
         """Creates the player of a side before the first update. It knows its
         own team, at full HP, and nothing about the foe.
 
         `foes` is how many members the foe has, 1 to 6, or None if the
         player should not know it. `hp_form` is that of its teller or host,
-        the bar if it is not given. Raises `BadTeam`, `BadArgument`,
-        `BadType`.
+        the bar if it is not given; `rules` and `limit` are those of the
+        battle. Raises `BadTeam`, `BadArgument`, `BadType`.
         """
         known, own, form = a_side(side), as_team(team), a_form(hp_form, HpForm.BAR)
         count = 0 if foes is None else within(foes, "foes", 1, 6)
+        last, clauses = within(limit, "limit", 1, 9999), within(rules, "rules", 0, 3, Rules)
+        terms = PlayerTermsStruct(limit=last, rules=clauses, foes=count, hp_form=form)
         self._held = PlayerStruct()
-        answer = _library.player_begin(byref(self._held), known, byref(own._struct), count, form)
+        answer = _library.player_begin(byref(self._held), known, byref(own._struct), byref(terms))
         if answer:
             code = NewFault(answer & 0xFF)
             raise BadTeam(code.label, member=answer >> 8 & 0xFF, code=code)
@@ -235,9 +244,7 @@ class Player:
 
     @property
     def foes(self) -> int | None:
-        """How many members the foe has, 1 to 6; None if the player does not
-        know.
-        """
+        """How many members the foe has, 1 to 6; None if that is unknown."""
         return int(self._held.foes) or None
 
     @property
@@ -246,10 +253,18 @@ class Player:
         return HpForm(self._held.hp_form)
 
     @property
+    def rules(self) -> Rules:
+        """The rules of the battle."""
+        return Rules(self._held.rules)
+
+    @property
+    def limit(self) -> int:
+        """The last turn of the battle, 1 to 9,999."""
+        return int(self._held.limit)
+
+    @property
     def own(self) -> OwnSide:
-        """The player's side as it was last shown; without members before the
-        first time.
-        """
+        """Its side as it was last shown; at first it has no members."""
         return own_side_from(bytes(self._held.own))
 
     def public(self, side: Side | int) -> PublicSide:
@@ -359,9 +374,7 @@ class Teller:
 
     @property
     def places(self) -> tuple[int, ...]:
-        """The places of the foe's members that have appeared, in the order in
-        which they did.
-        """
+        """The places of the foe's members that have appeared, in that order."""
         return tuple(it for it in self._held.places if it)
 
     def tell(self, log: ReadableBuffer) -> bytes:
@@ -383,7 +396,7 @@ class Teller:
     def report(self, battle: Battle, log: ReadableBuffer, player: Player) -> None:
         """Reports the log of an update to a player, and shows it its own side
         and its choices in the current battle. The player's form of HP
-        becomes the teller's.
+        becomes the teller's, and its rules and limit the battle's.
 
         For a room, whose battle a forfeit does not change, use `tell`,
         `Player.feed` and `Player.show` with `room.choices`. Raises
@@ -401,6 +414,8 @@ class Teller:
         informed.show(own, battle.choices(self.side))
         informed.feed(teller.tell(log))
         informed._held.hp_form = self.hp_form
+        terms = struct_of_state(battle._held)
+        informed._held.rules, informed._held.limit = terms.rules, terms.limit
         begins = own.request is Request.MOVE
         if informed._team != _OWN_TEAM(own._held) or begins and not player.turn < informed.turn == own.turn:
             raise BadArgument(
@@ -487,7 +502,8 @@ def _player_fault(of: PlayerStruct) -> str | None:
         # Before the first time nothing is shown.
         or (own_fault(of.own) if any(bytes(of.own)) else None)
         or mask_fault(of)
-        or ("side" if not of.side else held_fault(of))
+        or first_false([("limit", of.limit), ("side", of.side)])
+        or held_fault(of)
     )
 
 

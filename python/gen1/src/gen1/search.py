@@ -20,7 +20,7 @@ from __future__ import annotations
 import ctypes
 import json
 from collections.abc import Iterable
-from ctypes import POINTER, Structure, byref, c_double, c_size_t, c_uint8, c_uint16, c_uint32, c_uint64
+from ctypes import POINTER, Structure, byref, c_double, c_size_t, c_uint8, c_uint32, c_uint64
 from dataclasses import dataclass
 from math import inf
 from numbers import Real
@@ -30,7 +30,7 @@ from gen1._check import probability, shown, truth, within
 from gen1._extras import extras
 from gen1._library import TeamStruct
 from gen1.battle import Battle, TeamLike
-from gen1.choices import Choice, Rules
+from gen1.choices import Choice
 from gen1.errors import BadArgument, BadType, Error
 from gen1.players import Player
 from gen1.teams import as_team
@@ -57,9 +57,7 @@ class _ThinkStruct(Structure):
         ("trees", c_uint32),
         ("guesses", c_uint32),
         ("threads", c_uint32),
-        ("limit", c_uint16),
-        ("rules", c_uint8),
-        ("unused", c_uint8),
+        ("unused", c_uint32),
         ("teams", POINTER(TeamStruct)),
         ("weights", POINTER(c_double)),
         ("count", c_size_t),
@@ -162,8 +160,6 @@ def think(
     seed: int = 0,
     teams: Iterable[TeamLike] | None = None,
     weights: Iterable[float] | None = None,
-    rules: Rules | int = 0,
-    limit: int = 1000,
     trees: int = 4,
     guesses: int = 16,
     threads: int = 1,
@@ -175,8 +171,7 @@ def think(
     Otherwise the same player, seed, nodes, trees and guesses give the same
     result, for any number of threads. `teams` are those that the foe may
     have, each as probable as its weight over the sum of all, or all alike;
-    without them, the sample teams. `rules` and `limit` are those of the
-    battle, which a player doesn't know.
+    without them, the sample teams.
 
     Other Python threads run during the search. Raises `SearchFailed` if the
     player is offered no choice, or no guess fits what it knows;
@@ -193,8 +188,6 @@ def think(
         trees=within(trees, "trees", 1, 1024),
         guesses=within(guesses, "guesses", 1, 4096),
         threads=within(threads, "threads", 1, 256),
-        limit=within(limit, "limit", 1, 9999),
-        rules=within(rules, "rules", 0, 3, Rules),
         teams=listed,
         weights=each,
         count=len(each),

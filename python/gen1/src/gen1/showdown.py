@@ -603,8 +603,8 @@ class Follower:
         """
         seen = [Member(species, ["Tackle"], level=level) for species, level in self._read["seen"]]
         own = self._members.team if self._members else Team(seen)
-        form = HpForm(self._read["hp_form"])
-        made = Player(self._side, own, self.count(3 - self._side), hp_form=form)
+        form, terms = HpForm(self._read["hp_form"]), {name: self._read[name] for name in ("rules", "limit")}
+        made = Player(self._side, own, self.count(3 - self._side), hp_form=form, **terms)
         made.feed(self.log)
         return made
 

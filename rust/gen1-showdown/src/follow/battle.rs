@@ -7,7 +7,7 @@ use crate::{Fault, Members, index, names_of, team};
 use gen1::{
     Battle, CantReason, Choice, Conditions, DamageSource, Effect, Event, Guess, GuessFault, Kind,
     Member, MemberSpec, MoveId, OfferedMask, OwnMember, OwnSide, Player, PublicSide, Seen, Side,
-    Team, TurnLimit, Volatile,
+    Team, Volatile,
 };
 
 /// A request with its place in the log.
@@ -447,18 +447,14 @@ pub fn fitting(
     let team = guessed_team(&player, &read.sides[index(side.other())], guess)?;
     // The choices follow from the rest.
     player.show(&shown.own, OfferedMask::default());
-    let mut guess = Guess::new(team, seed);
-    guess.rules = read.rules();
-    if player.turn() > guess.limit.number() {
-        guess.limit = TurnLimit::new(9999).unwrap_or_default();
-    }
-    let battle = Battle::from_player(&player, &guess).map_err(|why| match why {
-        GuessFault::NotGoingOn => Fault::Line {
-            line: read.last_line,
-            why: why.to_string(),
-        },
-        _ => Fault::Guess(why.to_string()),
-    })?;
+    let battle =
+        Battle::from_player(&player, &Guess::new(team, seed)).map_err(|why| match why {
+            GuessFault::NotGoingOn => Fault::Line {
+                line: read.last_line,
+                why: why.to_string(),
+            },
+            _ => Fault::Guess(why.to_string()),
+        })?;
     let offered = battle.choices(side);
     if *offered != *shown.choices {
         let [due, found] = [&offered[..], &shown.choices[..]].map(words);

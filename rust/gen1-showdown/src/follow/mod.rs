@@ -8,7 +8,7 @@ mod roster;
 use crate::{Fault, Members, index, names_of, player_of, team};
 use gen1::{
     Battle, Event, EventList, HpForm, LogBuf, MoveId, Place, Player, PublicSide, Side, Team,
-    Volatile, member, write_log,
+    TurnLimit, Volatile, member, write_log,
 };
 use reader::Reader;
 use roster::Roster;
@@ -169,7 +169,8 @@ impl Follower {
         };
         player.feed(&self.log())?;
         let form = form_of(player.foe());
-        Ok(player.with_hp(form))
+        let limit = limit_at(player.turn());
+        Ok(player.with_hp(form).with_terms(self.read.rules(), limit))
     }
 
     /// A battle that fits what the player knows, its last request, and a guess of the foe's team in any order. It draws the numbers of the
@@ -196,6 +197,15 @@ fn form_of(foe: &PublicSide) -> HpForm {
     let mut forms = [(48, HpForm::Bar), (100, HpForm::Hundredths)].into_iter();
     let parts = forms.find(|(whole, _)| seen.clone().all(|it| it.max == *whole));
     parts.map_or(HpForm::Exact, |(_, form)| form)
+}
+
+/// The usual turn limit, unless a log has more turns.
+fn limit_at(turn: u16) -> TurnLimit {
+    let usual = TurnLimit::default();
+    match turn > usual.number() {
+        true => TurnLimit::new(9999).unwrap_or(usual),
+        false => usual,
+    }
 }
 
 /// What an event says that a side chose.

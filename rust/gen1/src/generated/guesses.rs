@@ -301,7 +301,7 @@ mod forks {
 
     // The state of a battle in which the foe's members are `fresh` where nothing is known of them.
     fn forked(player: &Player, side: Side, guess: &Guess, fresh: &[MemberState; 6]) -> BattleState {
-        let clause = guess.rules.sleep_clause();
+        let clause = player.rules % 2 == 1;
         let own = own_part(clause, &player.own, player.public.side(side));
         let foe = foe_part(
             clause,
@@ -314,9 +314,9 @@ mod forks {
         BattleState {
             sides,
             turn: player.own.turn,
-            limit: guess.limit.number(),
+            limit: player.limit,
             last_damage: 0,
-            rules: guess.rules.bits(),
+            rules: player.rules,
             outcome: 0,
             requests,
             index: 0,
@@ -366,7 +366,6 @@ mod forks {
 
 mod guess {
     //! A guess of what a player can't know ([docs/MECHANICS.md, "A battle that fits"](https://hibsuloy.example/gen1/blob/main/docs/MECHANICS.md#a-battle-that-fits)).
-    use crate::generated::machine::{Rules, TurnLimit};
     use crate::generated::stats::Team;
 
     /// A guess of what a player can't know.
@@ -376,10 +375,6 @@ mod guess {
         pub team: Team,
         /// The ten link numbers; the first of them is drawn next.
         pub numbers: [u8; 10],
-        /// The rules of the battle.
-        pub rules: Rules,
-        /// The last turn.
-        pub limit: TurnLimit,
     }
 }
 

@@ -11,7 +11,7 @@
 //! - `nodes`: the draws of a way, each with the bytes that are still to be tried
 //! - `explorer`: a generator that takes an update through all its ways, one after the other
 //! - `playing`: an update whose draws come from any generator
-//! - `beginning`: a turn up to its second action
+//! - `beginning`: a turn up to its second action, and the rest of it
 //! - `chances`: sums of probabilities, and which are below the least one
 //! - `middles`: positions between the two actions of a turn
 //! - `ways`: [`Ways`], the ways of an update one by one
@@ -24,8 +24,8 @@
 mod alike {
     //! The bytes that a look sees alike, or that are in a class of damage ([docs/MECHANICS.md, "Link numbers"](https://hibsuloy.example/gen1/blob/main/docs/MECHANICS.md#link-numbers)).
 
-    use crate::generated::outcomes::byte_set::ByteSet;
-    use crate::generated::outcomes::classes::told;
+    use crate::generated::outcomes::byte_set::{ByteSet, minus, ones};
+    use crate::generated::outcomes::classes::{least_factor, told};
     use crate::generated::rolls::Look;
 
     /// The bytes of a set that are alike to the byte in as many classes of damage.
@@ -37,6 +37,9 @@ mod alike {
             Look::Remainder(2) => among.both(&ByteSet::repeated(every_second(byte % 2))),
             Look::Remainder(4) => among.both(&ByteSet::repeated(every_fourth(byte % 4))),
             Look::Remainder(8) => among.both(&ByteSet::repeated(every_eighth(byte % 8))),
+            Look::Factor { damage, edge, cut } if damage_classes == 0 && damage > 0 => {
+                making(damage, limit_of(edge, cut), look.sees(byte), among)
+            }
             _ => ByteSet {
                 words: [
                     alike_in_word(damage_classes, look, byte, 0, among.words[0]),
@@ -46,6 +49,45 @@ mod alike {
                 ],
             },
         }
+    }
+
+    // The bytes of a set that make this part of the damage, which is cut at a limit.
+    fn making(damage: u16, limit: u16, part: u16, among: &ByteSet) -> ByteSet {
+        let first = least_factor(damage, part).min(256) as u16;
+        let next = if part < limit {
+            least_factor(damage, part + 1).min(256) as u16
+        } else {
+            256
+        };
+        ByteSet {
+            words: [
+                between(first, next, 0, among.words[0]),
+                between(first, next, 32, among.words[1]),
+                between(first, next, 64, among.words[2]),
+                between(first, next, 96, among.words[3]),
+            ],
+        }
+    }
+
+    // The bytes of a word that, rotated right by one bit, are from the first number up to the next. The first byte of the word, so rotated,
+    // is `least`.
+    fn between(first: u16, next: u16, least: u16, word: u64) -> u64 {
+        if word == 0 {
+            return 0;
+        }
+        minus(word & halves(next, least), halves(first, least))
+    }
+
+    // The bytes of such a word that, so rotated, are below a bound. Its odd bytes are 128 more than the even ones before them.
+    fn halves(bound: u16, least: u16) -> u64 {
+        let even = bound.saturating_sub(least).min(32) as u8;
+        let odd = bound.saturating_sub(least + 128).min(32) as u8;
+        ones(2 * even) & 0x5555_5555_5555_5555 | ones(2 * odd) & 0xAAAA_AAAA_AAAA_AAAA
+    }
+
+    // Where a roll is cut: damages from there on are not distinguished.
+    fn limit_of(edge: u16, cut: bool) -> u16 {
+        if cut { edge } else { u16::MAX }
     }
 
     // The bytes of a set that are in the other set, or that are not.
@@ -95,24 +137,27 @@ mod alike {
 }
 
 mod beginning {
-    //! A turn up to its second action ([docs/MECHANICS.md, "Order of a turn"](https://hibsuloy.example/gen1/blob/main/docs/MECHANICS.md#order-of-a-turn)).
+    //! A turn up to its second action, and the rest of it ([docs/MECHANICS.md, "Order of a turn"](https://hibsuloy.example/gen1/blob/main/docs/MECHANICS.md#order-of-a-turn)).
 
     use crate::generated::events::Silent;
     use crate::generated::hits::Known;
     use crate::generated::layout::Packed;
-    use crate::generated::machine::{Choice, Request, Side};
+    use crate::generated::machine::{Choice, Pick, Request, Side};
     use crate::generated::rolls::Rolls;
     use crate::generated::status::pick;
-    use crate::generated::turn::{act_and_suffer_as, end_flinch, first_side, set_picked};
+    use crate::generated::switching::{close, close_uncut};
+    use crate::generated::turn::{act_and_suffer_as, end_flinch, end_turn, first_side, set_picked};
 
-    /// What the rest of an update depends on besides the bytes of the battle, its choices, and its draws.
+    /// What the rest of an update depends on besides the bytes of the battle and its draws.
     #[derive(Clone, Copy, PartialEq, Eq, Debug)]
     pub struct Rest {
         /// The side that acts second.
         pub second: Side,
+        /// What it has picked.
+        pub pick: Pick,
         /// Its action is skipped, because it was asleep or frozen when Haze was used.
         pub skips: bool,
-        /// The turn ends before its action.
+        /// The turn was cut before its action, and the update is closed.
         pub is_cut: bool,
     }
 
@@ -135,18 +180,7 @@ mod beginning {
         }
     }
 
-    impl Rest {
-        /// The rest of an update of which nothing has been played.
-        pub(crate) fn all() -> Rest {
-            Rest {
-                second: Side::One,
-                skips: false,
-                is_cut: false,
-            }
-        }
-    }
-
-    /// Plays a turn in which both sides use a move, up to the second action.
+    /// Plays a turn in which both sides use a move, up to the second action. If the turn is cut there, the update is closed.
     pub(crate) fn begin<R: Rolls>(battle: &mut Packed, one: Choice, two: Choice, random: &mut R) -> Rest {
         end_flinch(battle, Side::One);
         end_flinch(battle, Side::Two);
@@ -156,16 +190,54 @@ mod beginning {
         set_picked(battle, Side::Two, others);
         let mut known = Known::new();
         let first = first_side(battle, random);
-        let picked = match first {
-            Side::One => mine,
-            Side::Two => others,
-        };
+        let picked = of_side(first, mine, others);
         let is_cut = act_and_suffer_as(battle, first, picked, &mut known, random, &mut Silent);
+        close_if(is_cut, battle, known.side);
+        let second = first.other();
         Rest {
-            second: first.other(),
+            second,
+            pick: of_side(second, mine, others),
             skips: known.skips,
             is_cut,
         }
+    }
+
+    // Closes an update whose turn is cut. `actor` acted last.
+    fn close_if(is_cut: bool, battle: &mut Packed, actor: Side) {
+        if is_cut {
+            close(battle, actor, &mut Silent);
+        }
+    }
+
+    fn of_side(side: Side, one: Pick, two: Pick) -> Pick {
+        match side {
+            Side::One => one,
+            Side::Two => two,
+        }
+    }
+
+    /// Plays the rest of an update from its second action: this action, and the close. Nothing is left if the turn was cut.
+    pub(crate) fn end<R: Rolls>(battle: &mut Packed, rest: Rest, random: &mut R) {
+        if rest.is_cut {
+            return;
+        }
+        let mut known = Known {
+            skips: rest.skips,
+            ..Known::new()
+        };
+        if act_and_suffer_as(
+            battle,
+            rest.second,
+            rest.pick,
+            &mut known,
+            random,
+            &mut Silent,
+        ) {
+            close(battle, known.side, &mut Silent);
+            return;
+        }
+        end_turn(battle);
+        close_uncut(battle, &mut Silent);
     }
 }
 
@@ -299,7 +371,7 @@ mod byte_set {
     }
 
     // The bits of a word that the other word lacks.
-    fn minus(one: u64, other: u64) -> u64 {
+    pub(crate) fn minus(one: u64, other: u64) -> u64 {
         one & !other
     }
 
@@ -309,7 +381,7 @@ mod byte_set {
     }
 
     // The number whose lowest bits are set, as many as are given, or all 64.
-    fn ones(count: u8) -> u64 {
+    pub(crate) fn ones(count: u8) -> u64 {
         if count >= 64 {
             u64::MAX
         } else {
@@ -398,7 +470,7 @@ mod classes {
     }
 
     // The least factor, in 255ths, that makes the part of the damage.
-    fn least_factor(damage: u16, part: u16) -> u32 {
+    pub(crate) fn least_factor(damage: u16, part: u16) -> u32 {
         (u32::from(part) * 255 + u32::from(damage.saturating_sub(1))) / u32::from(damage.max(1))
     }
 }
@@ -904,25 +976,23 @@ mod middles {
     use crate::generated::outcomes::chances::plus;
     use crate::generated::outcomes::fault::OutcomesFault;
     use crate::generated::outcomes::merging::hash;
-    use crate::generated::outcomes::nodes::{Chance, Nodes, unknown_path};
+    use crate::generated::outcomes::nodes::{Chance, Nodes};
     use crate::generated::outcomes::script::DEPTH;
     use crate::generated::layout::Packed;
 
     /// How many positions are kept at once.
     pub const MIDDLES: usize = 16;
 
-    /// A position between the two actions of a turn.
+    /// A position between the two actions of a turn, or the beginning of an update that is not played in two parts.
     #[derive(Clone, Copy, PartialEq, Eq, Debug)]
     pub struct Middle {
-        /// The bytes of the battle.
+        /// The bytes of the battle. At the beginning they are not kept.
         pub bytes: [u8; 384],
-        /// What else the rest of the turn depends on.
-        pub rest: Rest,
+        /// What else the rest of the update depends on. `None` at the beginning.
+        pub rest: Option<Rest>,
         /// A number that is equal for equal bytes.
         pub hash: u64,
-        /// The bytes of the draws of a way that leads there, in the first places.
-        pub path: [u8; DEPTH],
-        /// How many draws that way has.
+        /// How many draws one way has that leads there.
         pub draws: usize,
         /// The probability of all ways that lead there.
         pub chance: Chance,
@@ -937,9 +1007,8 @@ mod middles {
             bytes.copy_from_slice(battle.as_bytes());
             Middle {
                 bytes,
-                rest,
+                rest: Some(rest),
                 hash: hash(battle),
-                path: nodes.path(),
                 draws: nodes.len,
                 chance,
                 ways: 1,
@@ -947,26 +1016,21 @@ mod middles {
         }
 
         /// The beginning of an update.
-        pub fn beginning(damage_classes: u8) -> Self {
+        pub fn beginning() -> Self {
             Middle {
                 bytes: [0; 384],
-                rest: Rest::all(),
+                rest: None,
                 hash: 0,
-                path: unknown_path(damage_classes),
                 draws: 0,
                 chance: Chance { num: 1, whole: 1 },
                 ways: 1,
             }
         }
 
-        /// The bytes of the way to this position, and then those of these draws.
-        pub fn path_to(&self, nodes: &Nodes) -> [u8; DEPTH] {
-            let mut path = self.path;
-            let known = nodes.len.min(DEPTH - self.draws);
-            for place in 0..known {
-                path[self.draws + place] = nodes.list[place].byte;
-            }
-            path
+        /// Writes the battle of this position.
+        pub fn write_to(&self, battle: &mut Packed) {
+            battle.header_mut().copy_from_slice(&self.bytes[..24]);
+            battle.sides_mut().copy_from_slice(&self.bytes[24..]);
         }
 
         /// The probability of the ways that lead there and then have these draws, which were noted with that of `self` before them.
@@ -987,9 +1051,7 @@ mod middles {
         // Whether both positions agree.
         fn goes_on_as(&self, other: &Middle) -> bool {
             self.hash == other.hash
-                && self.rest.is_cut == other.rest.is_cut
-                && self.rest.skips == other.rest.skips
-                && self.rest.second == other.rest.second
+                && are_same(self.rest, other.rest)
                 && self.bytes[..] == other.bytes[..]
         }
 
@@ -1009,6 +1071,19 @@ mod middles {
         }
     }
 
+    // Whether both are those of positions, and the same.
+    fn are_same(one: Option<Rest>, other: Option<Rest>) -> bool {
+        match (one, other) {
+            (Some(rest), Some(others)) => {
+                rest.second == others.second
+                    && rest.pick == others.pick
+                    && rest.skips == others.skips
+                    && rest.is_cut == others.is_cut
+            }
+            _ => false,
+        }
+    }
+
     /// A list of positions.
     #[derive(Clone, Copy, PartialEq, Eq, Debug)]
     pub struct Middles {
@@ -1022,7 +1097,7 @@ mod middles {
         /// None yet.
         pub fn new() -> Self {
             Middles {
-                list: [Middle::beginning(0); MIDDLES],
+                list: [Middle::beginning(); MIDDLES],
                 len: 0,
             }
         }
@@ -1237,22 +1312,13 @@ mod nodes {
             })
         }
 
-        // The probability of the bytes that are alike to `byte`, in smaller numbers where both are even or equal.
+        // The probability of the bytes that are alike to `byte`, without the factors of 2 that both numbers share.
         fn part(&self) -> (u16, u16) {
             if self.count >= self.total {
                 return (1, 1);
             }
-            let mut num = self.count;
-            let mut whole = self.total;
-            for _ in 0..8 {
-                if num % 2 != 0 || whole % 2 != 0 {
-                    break;
-                }
-                let half = halved(num, whole);
-                num = half.0;
-                whole = half.1;
-            }
-            (num, whole)
+            let twos = (self.count | self.total).trailing_zeros();
+            (self.count >> twos, self.total >> twos)
         }
     }
 
@@ -1291,15 +1357,6 @@ mod nodes {
             (ByteSet::all().without(&below), u16::from(bound))
         } else {
             (below, 256 - u16::from(bound))
-        }
-    }
-
-    // Half of both, if both are even.
-    fn halved(num: u16, whole: u16) -> (u16, u16) {
-        if num % 2 == 0 && whole % 2 == 0 {
-            (num / 2, whole / 2)
-        } else {
-            (num, whole)
         }
     }
 
@@ -1420,14 +1477,17 @@ mod nodes {
                 if self.len == 0 {
                     return false;
                 }
-                let mut last = self.list[self.len - 1];
-                if last.advance() {
-                    self.list[self.len - 1] = last;
+                if Nodes::advance_in(&mut self.list, self.len - 1) {
                     return true;
                 }
                 self.len -= 1;
             }
             false
+        }
+
+        // Goes to a byte of the rest of the draw at a place, if there is one.
+        fn advance_in(list: &mut [Node; DEPTH], place: usize) -> bool {
+            list[place].advance()
         }
 
         /// The bytes of the way. The places after them have those of draws that are not known yet.
@@ -1581,7 +1641,7 @@ mod outcomes {
         if ways.has_two_actions() {
             return add_in_parts(ways, successors, table, tally);
         }
-        let whole = Middle::beginning(ways.options().damage_classes);
+        let whole = Middle::beginning();
         finish(ways, &whole, successors, table, tally)
     }
 
@@ -2096,7 +2156,7 @@ mod successor {
 mod ways {
     //! Each way of an update apart ([docs/MECHANICS.md, "Link numbers"](https://hibsuloy.example/gen1/blob/main/docs/MECHANICS.md#link-numbers)).
 
-    use crate::generated::outcomes::beginning::{begin, have_two_actions};
+    use crate::generated::outcomes::beginning::{begin, end, have_two_actions};
     use crate::generated::outcomes::explorer::{After, Explorer};
     use crate::generated::outcomes::fault::OutcomesFault;
     use crate::generated::outcomes::middles::Middle;
@@ -2210,7 +2270,7 @@ mod ways {
             nodes
         }
 
-        /// Plays the update in the way that leads there and then has these draws, and returns its probability.
+        /// Plays on from there in the way that has these draws, and returns its probability.
         ///
         /// # Errors
         ///
@@ -2221,18 +2281,27 @@ mod ways {
             middle: &Middle,
             battle: &mut Packed,
         ) -> Result<Chance, OutcomesFault> {
-            *battle = copy_of(&self.start);
-            let path = middle.path_to(&*nodes);
-            let notes = After {
-                left: middle.draws,
-                nodes: &mut *nodes,
-            };
-            let explorer = Explorer::new(path, notes);
-            let one = copied(&self.one);
-            let two = copied(&self.two);
-            explorer.draws_a_stream();
-            play(battle, one, two, explorer, &mut Silent);
+            self.play_on(nodes, middle, battle);
             middle.chance_with(nodes)
+        }
+
+        // Plays the rest of the update from a position, or all of it from its beginning.
+        fn play_on(&self, nodes: &mut Nodes, middle: &Middle, battle: &mut Packed) {
+            let path = nodes.path();
+            let mut explorer = Explorer::new(path, After::of(&mut *nodes));
+            explorer.draws_a_stream();
+            match middle.rest {
+                Some(rest) => {
+                    middle.write_to(battle);
+                    end(battle, rest, &mut explorer);
+                }
+                None => {
+                    *battle = copy_of(&self.start);
+                    let one = copied(&self.one);
+                    let two = copied(&self.two);
+                    play(battle, one, two, explorer, &mut Silent);
+                }
+            }
         }
 
         /// Whether both sides use a move, so that the update has two actions.

@@ -1,14 +1,26 @@
-use Rattle.std.proofs.Common.{◌∙◌}
+use Rattle.std.proofs.Common.{inl, sym, ◌∙◌}
 use Rattle.gen1_layout.specs.Within.{setting_of}
 use Rattle.gen1_offers.proofs.BetweenUpdates.{packs_of}
-use Rattle.gen1_outcomes.proofs.Complete.{on_ok_map, on_ok_of, two_stages}
+use Rattle.gen1_outcomes.proofs.Complete.{every_from, on_ok_map}
 use Rattle.gen1_outcomes.proofs.outcomes.add_all.Goals as goal
+
+pub add_in_parts-requires-clause-two : goal.add_in_parts-requires-clause-two
+add_in_parts-requires-clause-two c s h =
+    sym (c.has_two_actions.ensures.packs (setting_of s) s.field (packs_of h)) ∙ c.if-has_two_actions.true
+
+pub finish-requires-clause-reached : goal.finish-requires-clause-reached
+finish-requires-clause-reached c = inl c.beginning-whole.ensures.rest
 
 pub returns-then-has_two_actions-clause-every : goal.returns-then-has_two_actions-clause-every
 returns-then-has_two_actions-clause-every c =
-    on_ok_of c.add_in_parts.result _ (λ s h o stage exact.
-    two_stages _ _ _ (c.has_two_actions.ensures.packs (setting_of s) s.field (packs_of h)) c.if-has_two_actions.true stage)
+    on_ok_map c.add_in_parts.result _ _ (λ every exact s of.
+    every exact (c.requires.least ∙ exact.least) s (record {
+      offers = of;
+      two = sym (c.has_two_actions.ensures.packs (setting_of s) s.field (packs_of of.stands)) ∙ c.if-has_two_actions.true;
+    })) c.add_in_parts.ensures.every
 
 pub returns-clause-every : goal.returns-clause-every
 returns-clause-every c =
-    on_ok_map c.finish.result _ _ (λ every s h o stage exact. every c.beginning-whole.ensures.draws exact (c.requires.least ∙ exact.least) s h o) c.finish.ensures.every
+    on_ok_map c.finish.result _ _ (λ every exact s of.
+    every_from c.args.ways.now c.beginning-whole.result s c.finish.new.tally.count c.finish.new.successors c.beginning-whole.ensures.rest
+    (every exact (c.requires.least ∙ exact.least) s of)) c.finish.ensures.every

@@ -1,5 +1,7 @@
 use Rattle.std.proofs.Common.{arith, refl, ◌∙◌}
+use Rattle.gen1_outcomes.proofs.Complete.{extends_those, going_first, going_on, gone, on_ok_map, past_kept}
 use Rattle.gen1_outcomes.proofs.Lists.{on_ok_then, still_then, still_those}
+use Rattle.gen1_outcomes.proofs.Positions.{reached_more}
 use Rattle.gen1_outcomes.proofs.Shares.{leaves_then, on_ok_leaves, on_ok_stay, stay_then}
 use Rattle.gen1_outcomes.proofs.Table.{indexed_kept, on_ok_then_indexed}
 use Rattle.gen1_outcomes.proofs.outcomes.add_in_parts.Goals as goal
@@ -7,8 +9,10 @@ use Rattle.gen1_outcomes.proofs.outcomes.add_in_parts.Goals as goal
 pub walk-init : goal.walk-init
 walk-init c =
     record {
+      reached = λ k past lt. absurd (omega (arith, lt, c.new-middles.ensures));
       within = omega arith;
       options = c.new-nodes.ensures.options ∙ c.options.ensures;
+      every = λ exact least. going_first _ _ _ c.new-nodes.ensures.at c.new-nodes.ensures.empty;
       left_out = record { least = refl; none = λ l z. z };
       probable = λ are. are;
       takes = refl;
@@ -16,11 +20,26 @@ walk-init c =
       follow = λ s h o each. each;
     }
 
+pub go_on_from-requires-clause-reached : goal.go_on_from-requires-clause-reached
+go_on_from-requires-clause-reached c =
+    reached_more c.args.ways.now c.walk.nodes c.begin.new.nodes c.in-Some.middle c.make_room.new.middles c.keep.new.middles c.walk.invariant.options
+    c.in-Some.ensures.fits c.in-Some.ensures.reaches c.requires.two c.in_ok-make_room.ensures.reached c.in_ok-keep.ensures.kept
+
 pub walk-preserved : goal.walk-preserved
 walk-preserved c =
     record {
+      reached = reached_more c.args.ways.now c.walk.nodes c.begin.new.nodes c.in-Some.middle c.make_room.new.middles c.keep.new.middles c.walk.invariant.options
+          c.in-Some.ensures.fits c.in-Some.ensures.reaches c.requires.two c.in_ok-make_room.ensures.reached c.in_ok-keep.ensures.kept;
       within = omega arith;
       options = (c.if-not-advance.ensures.on refl).options ∙ c.in-Some.ensures.options;
+      every = λ exact least.
+          going_on _ _ c.begin.new.nodes c.advance.new.self (c.if-not-advance.ensures.on refl) (c.if-not-advance.ensures.left refl)
+          (past_kept c.args.ways.now c.walk.nodes c.begin.new.nodes c.in-Some.middle c.walk.middles c.make_room.new.middles c.keep.new.middles c.walk.tally.count c.make_room.new.tally.count
+          c.keep.new.tally.count c.walk.successors c.make_room.new.successors c.keep.new.successors exact c.walk.invariant.options c.in-Some.ensures.fits c.in-Some.ensures.reaches
+          (c.in_ok-make_room.ensures.every exact (c.walk.invariant.left_out.least ∙ least))
+          (c.in_ok-keep.ensures.every (c.in_ok-make_room.ensures.left_out.least ∙ c.walk.invariant.left_out.least ∙ least))
+          (extends_those c.make_room.new.tally.count c.keep.new.tally.count c.make_room.new.successors c.keep.new.successors c.in_ok-keep.ensures.count c.in_ok-keep.ensures.battles)
+          (c.walk.invariant.every exact least));
       probable = stay_then c.args.tally.now c.make_room.new.tally c.keep.new.tally c.args.successors.now c.make_room.new.successors c.keep.new.successors
           (stay_then c.args.tally.now c.walk.tally c.make_room.new.tally c.args.successors.now c.walk.successors c.make_room.new.successors
           c.walk.invariant.probable c.in_ok-make_room.ensures.probable)
@@ -71,3 +90,17 @@ returns-then-not-advance-clause-indexed c =
     indexed_kept c.make_room.new.table c.make_room.new.tally.count c.keep.new.tally.count c.make_room.new.successors c.keep.new.successors
     c.in_ok-keep.ensures.battles c.in_ok-keep.ensures.count (c.in_ok-make_room.ensures.indexed (c.walk.invariant.indexed are)))
     c.go_on_from.ensures.indexed
+
+pub returns-then-not-advance-clause-every : goal.returns-then-not-advance-clause-every
+returns-then-not-advance-clause-every c =
+    on_ok_map c.go_on_from.result _ _ (λ lists exact least s of stream is.
+    lists exact (c.in_ok-keep.ensures.left_out.least ∙ c.in_ok-make_room.ensures.left_out.least ∙ c.walk.invariant.left_out.least ∙ least) s of stream is
+    (gone _ _ c.begin.new.nodes (c.if-not-advance.ensures.done refl)
+    (past_kept c.args.ways.now c.walk.nodes c.begin.new.nodes c.in-Some.middle c.walk.middles c.make_room.new.middles c.keep.new.middles c.walk.tally.count c.make_room.new.tally.count
+    c.keep.new.tally.count c.walk.successors c.make_room.new.successors c.keep.new.successors exact c.walk.invariant.options c.in-Some.ensures.fits c.in-Some.ensures.reaches
+    (c.in_ok-make_room.ensures.every exact (c.walk.invariant.left_out.least ∙ least))
+    (c.in_ok-keep.ensures.every (c.in_ok-make_room.ensures.left_out.least ∙ c.walk.invariant.left_out.least ∙ least))
+    (extends_those c.make_room.new.tally.count c.keep.new.tally.count c.make_room.new.successors c.keep.new.successors c.in_ok-keep.ensures.count c.in_ok-keep.ensures.battles)
+    (c.walk.invariant.every exact least))
+    s of stream is))
+    c.go_on_from.ensures.every

@@ -1,14 +1,16 @@
 use Rattle.std.proofs.Common.{arith, refl, subst, sym, ◌∙◌, ℕ}
 use Rattle.gen1_outcomes.specs.Merging.{IsIndexed}
-use Rattle.gen1_outcomes.proofs.Complete.{going_first, going_on, gone, past_more}
+use Rattle.gen1_outcomes.proofs.Complete.{extends_more, extends_none, extends_then, going_first, going_on, gone, past_more}
 use Rattle.gen1_outcomes.proofs.Lists.{still_more}
+use Rattle.gen1_outcomes.proofs.Positions.{follows_on}
 use Rattle.gen1_outcomes.proofs.Shares.{counts_more, leaves_then, stay_more}
 use Rattle.gen1_outcomes.proofs.outcomes.finish.Goals as goal
 
 pub walk-init : goal.walk-init
 walk-init c =
     record {
-      every = λ none exact least. going_first _ _ _ _ c.restart-nodes.ensures.at c.restart-nodes.ensures.empty;
+      every = λ exact least. going_first _ _ _ c.restart-nodes.ensures.at c.restart-nodes.ensures.empty;
+      keeps = extends_none _ _;
       within = omega arith;
       options = c.restart-nodes.ensures.options;
       left_out = record { least = refl; none = λ l z. z };
@@ -22,12 +24,14 @@ walk-init c =
 pub walk-preserved : goal.walk-preserved
 walk-preserved c =
     record {
-      every = λ none exact least.
-          going_on c.args.ways.now c.go_on.new.nodes c.advance.new.self c.count_ways.new.self.count c.add.new.successors (c.if-not-advance.ensures.on refl)
-          (c.if-not-advance.ensures.left refl)
+      every = λ exact least.
+          going_on _ _ c.go_on.new.nodes c.advance.new.self (c.if-not-advance.ensures.on refl) (c.if-not-advance.ensures.left refl)
           (past_more c.args.ways.now c.args.middle.now c.walk.nodes c.go_on.new.nodes c.go_on.new.battle c.in_ok-chance.chance c.args.tally.now c.walk.tally c.add.new.tally
-          c.count_ways.new.self c.walk.successors c.add.new.successors none exact least c.walk.invariant.left_out.least c.walk.invariant.options c.in_ok-chance.ensures.fits
-          c.in_ok-chance.ensures.plays c.in_ok-add.ensures.adds c.in_ok-add.ensures.first c.in_ok-count_ways.ensures.count (c.walk.invariant.every none exact least));
+          c.count_ways.new.self c.walk.successors c.add.new.successors exact least c.walk.invariant.left_out.least c.walk.invariant.options c.in_ok-chance.ensures.fits
+          c.in_ok-chance.ensures.plays c.in_ok-add.ensures.adds c.in_ok-add.ensures.first c.in_ok-count_ways.ensures.count (c.walk.invariant.every exact least));
+      keeps = extends_then c.args.tally.now.count c.walk.tally.count c.count_ways.new.self.count c.args.successors.now c.walk.successors c.add.new.successors c.walk.invariant.keeps
+          (extends_more c.go_on.new.battle c.in_ok-chance.chance c.walk.tally c.add.new.tally c.count_ways.new.self c.walk.successors c.add.new.successors c.in_ok-add.ensures.adds
+          c.in_ok-add.ensures.first c.in_ok-count_ways.ensures.count);
       within = omega arith;
       options = (c.if-not-advance.ensures.on refl).options ∙ c.in_ok-chance.ensures.options;
       probable = stay_more c.go_on.new.battle c.in_ok-chance.chance c.args.tally.now c.walk.tally c.add.new.tally c.count_ways.new.self
@@ -41,14 +45,18 @@ walk-preserved c =
           (c.in_ok-add.ensures.indexed (c.walk.invariant.indexed are));
       left_out = leaves_then _ _ _ (leaves_then _ _ _ c.walk.invariant.left_out c.in_ok-add.ensures.left_out) c.in_ok-count_ways.ensures.left_out;
       follow = still_more c.args.ways.now c.args.ways.now c.go_on.new.battle c.args.tally.now.count c.walk.tally.count c.add.new.tally.count c.count_ways.new.self.count
-          c.args.successors.now c.walk.successors c.add.new.successors refl c.walk.invariant.follow c.in_ok-chance.ensures.follows
+          c.args.successors.now c.walk.successors c.add.new.successors refl c.walk.invariant.follow
+          (follows_on c.args.ways.now c.args.middle.now c.walk.nodes c.go_on.new.nodes c.go_on.new.battle c.requires.reached c.walk.invariant.options
+          c.in_ok-chance.ensures.fits c.in_ok-chance.ensures.plays)
           c.in_ok-add.ensures.battles c.in_ok-count_ways.ensures.count;
     }
 
 pub returns-then-not-advance-clause-follow : goal.returns-then-not-advance-clause-follow
 returns-then-not-advance-clause-follow c =
     still_more c.args.ways.now c.args.ways.now c.go_on.new.battle c.args.tally.now.count c.walk.tally.count c.add.new.tally.count c.count_ways.new.self.count
-    c.args.successors.now c.walk.successors c.add.new.successors refl c.walk.invariant.follow c.in_ok-chance.ensures.follows
+    c.args.successors.now c.walk.successors c.add.new.successors refl c.walk.invariant.follow
+    (follows_on c.args.ways.now c.args.middle.now c.walk.nodes c.go_on.new.nodes c.go_on.new.battle c.requires.reached c.walk.invariant.options
+    c.in_ok-chance.ensures.fits c.in_ok-chance.ensures.plays)
     c.in_ok-add.ensures.battles c.in_ok-count_ways.ensures.count
 
 pub returns-then-not-advance-clause-left_out : goal.returns-then-not-advance-clause-left_out
@@ -71,9 +79,15 @@ returns-then-not-advance-clause-indexed c are =
     subst (λ (n : ℕ). IsIndexed c.add.new.table n c.add.new.successors) (sym c.in_ok-count_ways.ensures.count)
     (c.in_ok-add.ensures.indexed (c.walk.invariant.indexed are))
 
+pub returns-then-not-advance-clause-keeps : goal.returns-then-not-advance-clause-keeps
+returns-then-not-advance-clause-keeps c =
+    extends_then c.args.tally.now.count c.walk.tally.count c.count_ways.new.self.count c.args.successors.now c.walk.successors c.add.new.successors c.walk.invariant.keeps
+    (extends_more c.go_on.new.battle c.in_ok-chance.chance c.walk.tally c.add.new.tally c.count_ways.new.self c.walk.successors c.add.new.successors c.in_ok-add.ensures.adds
+    c.in_ok-add.ensures.first c.in_ok-count_ways.ensures.count)
+
 pub returns-then-not-advance-clause-every : goal.returns-then-not-advance-clause-every
-returns-then-not-advance-clause-every c none exact least =
-    gone c.args.ways.now c.go_on.new.nodes c.count_ways.new.self.count c.add.new.successors (c.if-not-advance.ensures.done refl)
+returns-then-not-advance-clause-every c exact least =
+    gone _ _ c.go_on.new.nodes (c.if-not-advance.ensures.done refl)
     (past_more c.args.ways.now c.args.middle.now c.walk.nodes c.go_on.new.nodes c.go_on.new.battle c.in_ok-chance.chance c.args.tally.now c.walk.tally c.add.new.tally
-    c.count_ways.new.self c.walk.successors c.add.new.successors none exact least c.walk.invariant.left_out.least c.walk.invariant.options c.in_ok-chance.ensures.fits
-    c.in_ok-chance.ensures.plays c.in_ok-add.ensures.adds c.in_ok-add.ensures.first c.in_ok-count_ways.ensures.count (c.walk.invariant.every none exact least))
+    c.count_ways.new.self c.walk.successors c.add.new.successors exact least c.walk.invariant.left_out.least c.walk.invariant.options c.in_ok-chance.ensures.fits
+    c.in_ok-chance.ensures.plays c.in_ok-add.ensures.adds c.in_ok-add.ensures.first c.in_ok-count_ways.ensures.count (c.walk.invariant.every exact least))

@@ -1,15 +1,16 @@
 use Rattle.std.proofs.Common.{length, ◌≡◌, ◌≤◌}
-use Rattle.gen1_outcomes.specs.Complete.{IsExact}
+use Rattle.gen1_outcomes.specs.Complete.{Extends, IsExact}
 use Rattle.gen1_outcomes.specs.Listing.{StillFollow}
 use Rattle.gen1_outcomes.specs.Merging.{LeavesOut, StayIndexed}
 use Rattle.gen1_outcomes.specs.Shares.{CountsEach, StayProbable, TakesEach}
-use Rattle.gen1_outcomes.proofs.Complete.{IsGoing}
+use Rattle.gen1_outcomes.proofs.Complete.{IsGoingFrom}
 use Rattle.gen1_outcomes.proofs.outcomes.finish.Given as goal
 
 abbrev pub invariant-walk : goal.invariant-walk
 invariant-walk l =
     record {
-      every : l.middle.draws ≡ 0 → IsExact l.ways.options → l.fn.tally.least ≡ 0 → IsGoing l.ways l.nodes l.tally.count l.successors;
+      every : IsExact l.ways.options → l.fn.tally.least ≡ 0 → IsGoingFrom l.ways l.middle l.nodes l.tally.count l.successors;
+      keeps : Extends l.fn.tally.count l.fn.successors l.tally.count l.successors;
       within : l.tally.count ≤ length l.successors;
       options : l.nodes.options ≡ l.ways.options;
       left_out : LeavesOut l.fn.tally l.tally;

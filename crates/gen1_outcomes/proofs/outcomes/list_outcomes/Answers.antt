@@ -8,6 +8,6 @@ returns-in-Ok-clause-follow c s h =
     c.list_ways.new.successors c.list_ways.result (λ stands offered. c.list_ways.ensures.follow s stands offered)
 
 pub returns-in-Ok-clause-every : goal.returns-in-Ok-clause-every
-returns-in-Ok-clause-every c s h stage exact =
-    every_walk s c.args.pair.0 c.args.pair.1 c.args.options c.args.battle.now c.in-Ok.ways c.in-Ok.ensures.walk h (c.in-Ok.ensures.offered s h) stage exact
+returns-in-Ok-clause-every c s h exact =
+    every_walk s c.args.pair.0 c.args.pair.1 c.args.options c.args.battle.now c.in-Ok.ways c.in-Ok.ensures.walk h (c.in-Ok.ensures.offered s h) exact
     c.list_ways.new.successors c.list_ways.result (c.list_ways.ensures.every s)

@@ -33,6 +33,6 @@ returns-clause-once c =
     (c.in_ok-add_all.ensures.indexed (none_indexed c.args.table.now 0 c.args.successors.now refl)) c.finished.ensures.count
 
 pub returns-clause-every : goal.returns-clause-every
-returns-clause-every c s h o one exact =
+returns-clause-every c s of exact =
     finished_every s c.args.ways.now.one c.args.ways.now.two c.add_all.new.tally.count c.add_all.new.successors c.finished.result
-    (c.in_ok-add_all.ensures.every s h o one exact) c.finished.ensures.count
+    (c.in_ok-add_all.ensures.every exact s of) c.finished.ensures.count

@@ -6,6 +6,7 @@ use Rattle.gen1_machine.specs.declared.terms.Request.TheVariants.{Move}
 use Rattle.gen1_machine.specs.Picks.{pick_in}
 use Rattle.gen1_machine.specs.Ruling.{ruling_of}
 use Rattle.gen1_machine.specs.Turn.{turn}
+use Rattle.gen1_layout.specs.Parts.{parts_of}
 use Rattle.gen1_layout.specs.Within.{Stands, setting_of}
 use Rattle.gen1_switching.specs.Updates.{Plays, drawing_on}
 use Rattle.gen1_outcomes.specs.declared.log.Entry.{Entry}
@@ -15,6 +16,7 @@ use Rattle.gen1_outcomes.specs.Following.{Walk}
 use Rattle.gen1_outcomes.specs.Logs.{logged, place_at}
 use Rattle.gen1_outcomes.specs.Middles.{Reaches}
 use Rattle.gen1_outcomes.specs.Nodes.{Noting}
+use Rattle.gen1_outcomes.proofs.Positions.{within_bytes}
 use Rattle.gen1_outcomes.proofs.Logs.{logged_by, notes_keep, noting_is, same_place}
 use Rattle.gen1_outcomes.proofs.Offered.{way_as}
 use Rattle.gen1_outcomes.proofs.ways.Ways.begin.Goals as goal
@@ -36,19 +38,31 @@ returns-in-Some-clause-reaches c =
     record {
       path = path;
       is_path = c.path-path.ensures;
-      parts = c.begin-rest.new.battle;
-      bytes = c.new.ensures.bytes;
+      rest = c.begin-rest.result;
+      kept = c.new.ensures.rest;
       way = way.0;
       begins = λ s j k stands plays ej ek stream agrees.
           let p = drawing_on stream 0 s in
           let begun = rw (c.copy_of-battle.ensures, c.copied-one.ensures, c.copied-two.ensures) at c.begin-rest.ensures.begins in
           subst (λ (w : Walk). Stands w.start s → Plays s Move w.one w.two → w.one ≡ choices.Move j → w.two ≡ choices.Move k
-          → Begins logged (record { origin = []; stream = stream }) (setting_of s) c.begin-rest.new.battle last.log.entries c.new.result.rest
+          → Begins logged (record { origin = []; stream = stream }) (setting_of s) (parts_of c.new.result.bytes) last.log.entries c.begin-rest.result
           (pick_in j One (unflinched p).field) (pick_in k Two (unflinched p).field) p (turn (ruling_of s.terms) w.one w.two p)) c.self.view_is
-          (λ at going first second. rw c.new.ensures.rest
-          (let b = begun s j k at going first second (record { source = record { origin = start; stream = stream }; agrees = agrees }) 0 agrees.is
-          (ap (λ (l : List Entry). place_at l stream 0) c.new-explorer.ensures.log) in
-          record { here = b.here; within = b.within; stands = b.stands; drawn = b.drawn; first = b.first; goes_on = b.goes_on }))
+          (λ at going first second.
+          let b = begun s j k at going first second (record { source = record { origin = start; stream = stream }; agrees = agrees }) 0 agrees.is
+          (ap (λ (l : List Entry). place_at l stream 0) c.new-explorer.ensures.log)
+          in
+          record {
+            here = b.here;
+            within = within_bytes (setting_of s) c.begin-rest.new.battle c.new.result.bytes b.here.field c.new.ensures.bytes b.within;
+            stands = b.stands;
+            drawn = b.drawn;
+            first = b.first;
+            goes_on = b.goes_on;
+            on = b.on;
+            ready = b.ready;
+            pick = b.pick;
+            rests = b.rests;
+          })
           stands plays ej ek;
     }
     in

@@ -1,0 +1,9 @@
+use Rattle.std.proofs.Common.{ap, ap₂, min, ◌-◌, ℕ, ◌∙◌}
+use Rattle.std.proofs.lemmas.Nat.Bits.{bit_at_and}
+use Rattle.std.specs.Int.{bit_at}
+use Rattle.gen1_outcomes.proofs.alike.between.Goals as goal
+
+pub returns : goal.returns
+returns c i lt =
+    c.minus.ensures i lt ∙ ap (λ (n : ℕ). n - bit_at c.halves-2.result i) (bit_at_and c.args.word c.halves.result i)
+    ∙ ap₂ (λ (m n : ℕ). min (bit_at c.args.word i) m - n) (c.halves.ensures i lt) (c.halves-2.ensures i lt)
