@@ -44,7 +44,7 @@ class Online {
     this.server = new Server({
       said: (message) => void guarded(() => this.said(message)),
       lost: (seconds) => this.lost(seconds),
-      back: () => this.say(""),
+      back: () => this.back(),
     });
     this.lobby = new Lobby(engine, (type, fields) => this.ask(type, fields), this.server, (room) => this.show(room));
     this.table = new Table((type, fields) => void guarded(() => this.ask(type, fields)), () => this.play.leave());
@@ -253,6 +253,7 @@ class Online {
       this.play.open(match, false);
     else if (room.room === this.wanted || (match.side && this.isSeeking && !match.isOver && isFree))
       this.put(match);
+    if (!this.shown || this.shown === match) this.say("");
   }
 
   /** @param {RemoteMatch} match */
@@ -270,7 +271,10 @@ class Online {
     }
     if (code === "elsewhere") return this.moved({room: this.wanted, address: said});
     if (asked === "choose") this.again();
-    if (asked === "join") this.wanted = 0;
+    if (asked === "join") {
+      this.wanted = 0;
+      this.say("");
+    }
     if (asked === "rematch") this.table.wanted.clear();
     const field = document.getElementById(`online-${FIELDS.get(code)}`) ?? undefined;
     throw new Problem(sentence(said), field?.getClientRects().length ? {field} : {});
@@ -311,6 +315,11 @@ class Online {
     this.say(`The connection to the server is lost. It is tried again in ${seconds} ${
         seconds === 1 ? "second" : "seconds"}.`);
     this.again();
+  }
+
+  /** The connection is back. A battle that is shown waits until the server has sent it again. */
+  back() {
+    if (!this.shown || this.shown.isOver) this.say("");
   }
 
   /** @param {string} text about the connection */
