@@ -7,6 +7,7 @@ pub mod Parts
 pub mod Paths
 pub mod Positions
 pub mod Repeated
+pub mod Runs
 pub mod Sets
 pub mod Shares
 pub mod Shifts

@@ -1,8 +1,9 @@
 -- Classes of damage: bytes that a walk takes for alike (docs/MECHANICS.md, "Link numbers").
-use Rattle.std.specs.Prelude.{Bool, max, nat_le, ℕ, ◌*◌, ◌+◌, ◌-◌, ◌/◌, ◌<◌, ◌==◌, ◌≡◌, ◌≤◌, if◌then◌else◌}
+use Rattle.std.specs.Prelude.{Bool, max, nat_le, ℕ, ◌&&◌, ◌*◌, ◌+◌, ◌-◌, ◌/◌, ◌<◌, ◌==◌, ◌≡◌, ◌≤◌, if◌then◌else◌}
 use Rattle.gen1_rolls.specs.declared.look.Look.{Look}
 use Rattle.gen1_rolls.specs.declared.look.Look.TheVariants.{Below, Factor, Remainder, RotatedBelow}
 use Rattle.gen1_rolls.specs.Looks.{rotated_right_1, sees}
+use Rattle.gen1_outcomes.specs.declared.alike.Run.{Run}
 
 -- The least factor, in 255ths, that makes this part of the damage.
 abbrev pub least_factor : ℕ → ℕ → ℕ
@@ -12,6 +13,10 @@ least_factor damage part = (part * 255 + (damage - 1)) / max damage 1
 -- its least factor.
 abbrev pub class_of : ℕ → ℕ → ℕ → ℕ
 class_of n damage part = (least_factor damage part - 217) * n / 39
+
+-- The last factor of a class, one of n.
+abbrev pub last_factor : ℕ → ℕ → ℕ
+last_factor n class = 216 + (39 * (class + 1) + (n - 1)) / n
 
 -- What is told apart of a damage of which the part is seen: without classes the part, and else its class. From the edge on
 -- the classes are numbered after those below it, so none has damage from both sides.
@@ -42,3 +47,7 @@ abbrev pub KeepsEdgeApart : ℕ → Look → Type 0
 KeepsEdgeApart n look =
     (damage : ℕ) → (edge : ℕ) → (cut : Bool) → look ≡ Factor damage edge cut → edge ≤ 65535 → (x : ℕ) → (y : ℕ) → x < 256 → y < 256
     → told n look x ≡ told n look y → nat_le edge (damage_by damage x) ≡ nat_le edge (damage_by damage y)
+
+-- Whether a run has a part.
+abbrev pub is_in : Run → ℕ → Bool
+is_in run part = nat_le run.first part && nat_le part run.last

@@ -1,12 +1,12 @@
 //! The bytes that a look sees alike, or that are in a class of damage (docs/MECHANICS.md, "Link numbers").
-ghost use Rattle.std.specs.Prelude.{ℕ, min, nat_lt, ◌%◌, ◌+◌, ◌-◌, ◌<◌, ◌==◌, ◌≡◌, ◌≢◌, ◌≤◌, if◌then◌else◌};
+ghost use Rattle.std.specs.Prelude.{ℕ, min, nat_lt, ◌%◌, ◌*◌, ◌+◌, ◌-◌, ◌/◌, ◌<◌, ◌==◌, ◌≡◌, ◌≢◌, ◌≤◌, if◌then◌else◌};
 ghost use Rattle.std.specs.Int.{bit_at};
 ghost use Rattle.gen1_outcomes.specs.Bytes.{has};
-ghost use Rattle.gen1_outcomes.specs.Classes.{alike_in, damage_by};
+ghost use Rattle.gen1_outcomes.specs.Classes.{alike_in, class_of, damage_by, is_in, last_factor, part_told};
 ghost use Rattle.gen1_rolls.specs.Looks.{limit_of, rotated_right_1};
 
-use crate::byte_set::{ByteSet, minus, ones};
-use crate::classes::{least_factor, told};
+use crate::byte_set::ByteSet;
+use crate::classes::{class_of, least_factor, told};
 use gen1_rolls::Look;
 
 /// The bytes of a set that are alike to the byte in as many classes of damage.
@@ -21,8 +21,9 @@ pub fn alike_to(damage_classes: u8, look: Look, byte: u8, among: &ByteSet) -> By
         Look::Remainder(2) => among.both(&ByteSet::repeated(every_second(byte % 2))),
         Look::Remainder(4) => among.both(&ByteSet::repeated(every_fourth(byte % 4))),
         Look::Remainder(8) => among.both(&ByteSet::repeated(every_eighth(byte % 8))),
-        Look::Factor { damage, edge, cut } if damage_classes == 0 && damage > 0 => {
-            making(damage, limit_of(edge, cut), look.sees(byte), among)
+        Look::Factor { damage, edge, cut } if damage > 0 => {
+            let run = run_of(damage_classes, damage, edge, look.sees(byte));
+            making(damage, limit_of(edge, cut), run, among)
         }
         _ => ByteSet {
             words: [
@@ -35,52 +36,76 @@ pub fn alike_to(damage_classes: u8, look: Look, byte: u8, among: &ByteSet) -> By
     }
 }
 
-// The bytes of a set that make this part of the damage, which is cut at a limit.
-fn making(damage: u16, limit: u16, part: u16, among: &ByteSet) -> ByteSet
+/// Parts of a damage, one after the other.
+#[derive(Clone, Copy, PartialEq, Eq, Debug, Drop)]
+pub(crate) struct Run {
+    /// The least of them.
+    pub(crate) first: u16,
+    /// The greatest of them.
+    pub(crate) last: u16,
+}
+
+// The parts of the damage that are in one class with this part.
+fn run_of(damage_classes: u8, damage: u16, edge: u16, part: u16) -> Run
     requires damage { 0 < damage }
-    requires within { part ≤ limit }
-    ensures { (x : ℕ) → x < 256
-        → has result x ≡ (if part == min (damage_by damage x) limit then has among.now x else 0) }
+    requires part { part ≤ damage }
+    ensures first { result.first ≤ part }
+    ensures run { (other : ℕ) → other ≤ damage
+        → (part_told damage_classes damage edge part == part_told damage_classes damage edge other)
+        ≡ is_in result other }
 {
-    let first = least_factor(damage, part).min(256) as u16;
-    let next = if part < limit {
-        least_factor(damage, part + 1).min(256) as u16
+    if damage_classes == 0 {
+        return Run {
+            first: part,
+            last: part,
+        };
+    }
+    let class = class_of(damage_classes, damage, part);
+    let first = if class == 0 {
+        0
+    } else {
+        last_of(damage_classes, damage, class - 1) + 1
+    };
+    let last = last_of(damage_classes, damage, class);
+    if part >= edge {
+        Run {
+            first: first.max(edge),
+            last,
+        }
+    } else {
+        Run {
+            first,
+            last: last.min(edge - 1),
+        }
+    }
+}
+
+// The last part of the damage in a class.
+#[tactic(auto, using(crate::proofs::Runs::last_part))]
+fn last_of(damage_classes: u8, damage: u16, class: u32) -> u16
+    requires class { class < damage_classes }
+    ensures value { result ≡ damage * last_factor damage_classes class / 255 }
+    ensures bound { result ≤ damage }
+{
+    let classes = u32::from(damage_classes);
+    let factor = 216 + (39 * (class + 1) + (classes - 1)) / classes;
+    (u32::from(damage) * factor / 255) as u16
+}
+
+// The bytes of a set that make a part in the run. What they make of the damage is cut at a limit.
+fn making(damage: u16, limit: u16, run: Run, among: &ByteSet) -> ByteSet
+    requires damage { 0 < damage }
+    requires within { run.first ≤ limit }
+    ensures { (x : ℕ) → x < 256
+        → has result x ≡ (if is_in run (min (damage_by damage x) limit) then has among.now x else 0) }
+{
+    let first = least_factor(damage, run.first).min(256) as u16;
+    let next = if run.last < limit {
+        least_factor(damage, run.last + 1).min(256) as u16
     } else {
         256
     };
-    ByteSet {
-        words: [
-            between(first, next, 0, among.words[0]),
-            between(first, next, 32, among.words[1]),
-            between(first, next, 64, among.words[2]),
-            between(first, next, 96, among.words[3]),
-        ],
-    }
-}
-
-// The bytes of a word that, rotated right by one bit, are from the first number up to the next. The first byte of the word, so rotated,
-// is `least`.
-fn between(first: u16, next: u16, least: u16, word: u64) -> u64
-    requires { least ≤ 96 }
-    ensures { (i : ℕ) → i < 64 → bit_at result i ≡ min (bit_at word i) (if nat_lt (least + rotated_right_1 i) next then 1 else 0)
-        - (if nat_lt (least + rotated_right_1 i) first then 1 else 0) }
-{
-    if word == 0 {
-        return 0;
-    }
-    minus(word & halves(next, least), halves(first, least))
-}
-
-// The bytes of such a word that, so rotated, are below a bound. Its odd bytes are 128 more than the even ones before them.
-#[tactic(auto, using(crate::proofs::Repeated::halves_has))]
-fn halves(bound: u16, least: u16) -> u64
-    requires { least ≤ 96 }
-    ensures { (i : ℕ) → i < 64
-        → bit_at result i ≡ (if nat_lt (least + rotated_right_1 i) bound then 1 else 0) }
-{
-    let even = bound.saturating_sub(least).min(32) as u8;
-    let odd = bound.saturating_sub(least + 128).min(32) as u8;
-    ones(2 * even) & 0x5555_5555_5555_5555 | ones(2 * odd) & 0xAAAA_AAAA_AAAA_AAAA
+    among.rotated_right_between(first, next)
 }
 
 // Where a roll is cut: damages from there on are not distinguished.

@@ -1,7 +1,7 @@
 //! Sets of bytes (docs/MECHANICS.md, "Link numbers").
 ghost use Rattle.std.specs.Prelude.{Bool, IfNone, IfSome, IsFalse, IsTrue, ℕ, min, nat_lt, ◌%◌, ◌*◌, ◌+◌, ◌-◌, ◌^◌, ◌<◌, ◌≡◌, ◌≤◌, ◌≢◌, if◌then◌else◌};
 ghost use Rattle.std.specs.Int.{bit_at};
-ghost use Rattle.gen1_rolls.specs.Looks.{passes, rotated_left_3};
+ghost use Rattle.gen1_rolls.specs.Looks.{passes, rotated_left_3, rotated_right_1};
 ghost use Rattle.gen1_outcomes.specs.Bytes.{bits_set, has, size};
 
 use gen1_rolls::ByteTest;
@@ -48,6 +48,18 @@ impl ByteSet {
 
     /// The bytes that pass a test.
     pub fn that_pass(test: ByteTest) -> Self
+        ensures { (b : ℕ) → b < 256 → has result b ≡ (if passes test b then 1 else 0) }
+    {
+        match test {
+            ByteTest::RotatedAtLeast(least) => {
+                ByteSet::all().rotated_right_between(u16::from(least), 256)
+            }
+            _ => ByteSet::each_that_passes(test),
+        }
+    }
+
+    // The bytes that pass a test, tried one by one.
+    fn each_that_passes(test: ByteTest) -> Self
         ensures { (b : ℕ) → b < 256 → has result b ≡ (if passes test b then 1 else 0) }
     {
         let mut set = ByteSet::none();
@@ -144,6 +156,21 @@ impl ByteSet {
         }
     }
 
+    /// The bytes of the set that, rotated right by one bit, are from the first number up to the next.
+    pub fn rotated_right_between(&self, first: u16, next: u16) -> ByteSet
+        ensures { (b : ℕ) → b < 256 → has result b ≡ min (has self.now b) (if nat_lt (rotated_right_1 b) next then 1 else 0)
+            - (if nat_lt (rotated_right_1 b) first then 1 else 0) }
+    {
+        ByteSet {
+            words: [
+                between(first, next, 0, self.words[0]),
+                between(first, next, 32, self.words[1]),
+                between(first, next, 64, self.words[2]),
+                between(first, next, 96, self.words[3]),
+            ],
+        }
+    }
+
     /// The least byte of the set.
     pub fn first(&self) -> Option<u8>
         ensures none { IfNone result ((b : ℕ) → b < 256 → has self.now b ≡ 0) }
@@ -171,7 +198,7 @@ impl ByteSet {
 
 // The bits of a word that the other word lacks.
 #[tactic(auto, using(crate::proofs::Sets::without_bit))]
-pub(crate) fn minus(one: u64, other: u64) -> u64
+fn minus(one: u64, other: u64) -> u64
     ensures { (i : ℕ) → i < 64 → bit_at result i ≡ bit_at one i - bit_at other i }
 {
     one & !other
@@ -188,7 +215,7 @@ fn count_of(word: u64) -> u16
 
 // The number whose lowest bits are set, as many as are given, or all 64.
 #[tactic(auto, using(crate::proofs::Sets::ones_all, crate::proofs::Sets::ones_few))]
-pub(crate) fn ones(count: u8) -> u64
+fn ones(count: u8) -> u64
     ensures { result ≡ 2 ^ min count 64 - 1 }
 {
     if count >= 64 {
@@ -196,6 +223,31 @@ pub(crate) fn ones(count: u8) -> u64
     } else {
         (1 << count) - 1
     }
+}
+
+// The bytes of a word that, rotated right by one bit, are from the first number up to the next. The first byte of the word, so rotated,
+// is `least`.
+fn between(first: u16, next: u16, least: u16, word: u64) -> u64
+    requires { least ≤ 96 }
+    ensures { (i : ℕ) → i < 64 → bit_at result i ≡ min (bit_at word i) (if nat_lt (least + rotated_right_1 i) next then 1 else 0)
+        - (if nat_lt (least + rotated_right_1 i) first then 1 else 0) }
+{
+    if word == 0 {
+        return 0;
+    }
+    minus(word & halves(next, least), halves(first, least))
+}
+
+// The bytes of such a word that, so rotated, are below a bound. Its odd bytes are 128 more than the even ones before them.
+#[tactic(auto, using(crate::proofs::Repeated::halves_has))]
+fn halves(bound: u16, least: u16) -> u64
+    requires { least ≤ 96 }
+    ensures { (i : ℕ) → i < 64
+        → bit_at result i ≡ (if nat_lt (least + rotated_right_1 i) bound then 1 else 0) }
+{
+    let even = bound.saturating_sub(least).min(32) as u8;
+    let odd = bound.saturating_sub(least + 128).min(32) as u8;
+    ones(2 * even) & 0x5555_5555_5555_5555 | ones(2 * odd) & 0xAAAA_AAAA_AAAA_AAAA
 }
 
 // A word of `rotated_below`. Its lower 32 bytes are, rotated, `least` and every eighth number from there, and its higher

@@ -35,7 +35,7 @@ fn part_told(damage_classes: u8, damage: u16, edge: u16, part: u16) -> u32
 }
 
 // The class of a part of the damage.
-fn class_of(damage_classes: u8, damage: u16, part: u16) -> u32
+pub(crate) fn class_of(damage_classes: u8, damage: u16, part: u16) -> u32
     ensures { result ≡ class_of damage_classes damage part }
 {
     least_factor(damage, part).saturating_sub(217) * u32::from(damage_classes) / 39

@@ -24,8 +24,8 @@
 mod alike {
     //! The bytes that a look sees alike, or that are in a class of damage ([docs/MECHANICS.md, "Link numbers"](https://hibsuloy.example/gen1/blob/main/docs/MECHANICS.md#link-numbers)).
 
-    use crate::generated::outcomes::byte_set::{ByteSet, minus, ones};
-    use crate::generated::outcomes::classes::{least_factor, told};
+    use crate::generated::outcomes::byte_set::ByteSet;
+    use crate::generated::outcomes::classes::{class_of, least_factor, told};
     use crate::generated::rolls::Look;
 
     /// The bytes of a set that are alike to the byte in as many classes of damage.
@@ -37,8 +37,9 @@ mod alike {
             Look::Remainder(2) => among.both(&ByteSet::repeated(every_second(byte % 2))),
             Look::Remainder(4) => among.both(&ByteSet::repeated(every_fourth(byte % 4))),
             Look::Remainder(8) => among.both(&ByteSet::repeated(every_eighth(byte % 8))),
-            Look::Factor { damage, edge, cut } if damage_classes == 0 && damage > 0 => {
-                making(damage, limit_of(edge, cut), look.sees(byte), among)
+            Look::Factor { damage, edge, cut } if damage > 0 => {
+                let run = run_of(damage_classes, damage, edge, look.sees(byte));
+                making(damage, limit_of(edge, cut), run, among)
             }
             _ => ByteSet {
                 words: [
@@ -51,38 +52,59 @@ mod alike {
         }
     }
 
-    // The bytes of a set that make this part of the damage, which is cut at a limit.
-    fn making(damage: u16, limit: u16, part: u16, among: &ByteSet) -> ByteSet {
-        let first = least_factor(damage, part).min(256) as u16;
-        let next = if part < limit {
-            least_factor(damage, part + 1).min(256) as u16
+    /// Parts of a damage, one after the other.
+    #[derive(Clone, Copy, PartialEq, Eq, Debug)]
+    pub(crate) struct Run {
+        /// The least of them.
+        pub(crate) first: u16,
+        /// The greatest of them.
+        pub(crate) last: u16,
+    }
+
+    // The parts of the damage that are in one class with this part.
+    fn run_of(damage_classes: u8, damage: u16, edge: u16, part: u16) -> Run {
+        if damage_classes == 0 {
+            return Run {
+                first: part,
+                last: part,
+            };
+        }
+        let class = class_of(damage_classes, damage, part);
+        let first = if class == 0 {
+            0
+        } else {
+            last_of(damage_classes, damage, class - 1) + 1
+        };
+        let last = last_of(damage_classes, damage, class);
+        if part >= edge {
+            Run {
+                first: first.max(edge),
+                last,
+            }
+        } else {
+            Run {
+                first,
+                last: last.min(edge - 1),
+            }
+        }
+    }
+
+    // The last part of the damage in a class.
+    fn last_of(damage_classes: u8, damage: u16, class: u32) -> u16 {
+        let classes = u32::from(damage_classes);
+        let factor = 216 + (39 * (class + 1) + (classes - 1)) / classes;
+        (u32::from(damage) * factor / 255) as u16
+    }
+
+    // The bytes of a set that make a part in the run. What they make of the damage is cut at a limit.
+    fn making(damage: u16, limit: u16, run: Run, among: &ByteSet) -> ByteSet {
+        let first = least_factor(damage, run.first).min(256) as u16;
+        let next = if run.last < limit {
+            least_factor(damage, run.last + 1).min(256) as u16
         } else {
             256
         };
-        ByteSet {
-            words: [
-                between(first, next, 0, among.words[0]),
-                between(first, next, 32, among.words[1]),
-                between(first, next, 64, among.words[2]),
-                between(first, next, 96, among.words[3]),
-            ],
-        }
-    }
-
-    // The bytes of a word that, rotated right by one bit, are from the first number up to the next. The first byte of the word, so rotated,
-    // is `least`.
-    fn between(first: u16, next: u16, least: u16, word: u64) -> u64 {
-        if word == 0 {
-            return 0;
-        }
-        minus(word & halves(next, least), halves(first, least))
-    }
-
-    // The bytes of such a word that, so rotated, are below a bound. Its odd bytes are 128 more than the even ones before them.
-    fn halves(bound: u16, least: u16) -> u64 {
-        let even = bound.saturating_sub(least).min(32) as u8;
-        let odd = bound.saturating_sub(least + 128).min(32) as u8;
-        ones(2 * even) & 0x5555_5555_5555_5555 | ones(2 * odd) & 0xAAAA_AAAA_AAAA_AAAA
+        among.rotated_right_between(first, next)
     }
 
     // Where a roll is cut: damages from there on are not distinguished.
@@ -278,6 +300,16 @@ mod byte_set {
 
         /// The bytes that pass a test.
         pub fn that_pass(test: ByteTest) -> Self {
+            match test {
+                ByteTest::RotatedAtLeast(least) => {
+                    ByteSet::all().rotated_right_between(u16::from(least), 256)
+                }
+                _ => ByteSet::each_that_passes(test),
+            }
+        }
+
+        // The bytes that pass a test, tried one by one.
+        fn each_that_passes(test: ByteTest) -> Self {
             let mut set = ByteSet::none();
             for number in 0..256u16 {
                 let byte = number as u8;
@@ -351,6 +383,18 @@ mod byte_set {
             }
         }
 
+        /// The bytes of the set that, rotated right by one bit, are from the first number up to the next.
+        pub fn rotated_right_between(&self, first: u16, next: u16) -> ByteSet {
+            ByteSet {
+                words: [
+                    between(first, next, 0, self.words[0]),
+                    between(first, next, 32, self.words[1]),
+                    between(first, next, 64, self.words[2]),
+                    between(first, next, 96, self.words[3]),
+                ],
+            }
+        }
+
         /// The least byte of the set.
         pub fn first(&self) -> Option<u8> {
             for place in 0..4u8 {
@@ -371,7 +415,7 @@ mod byte_set {
     }
 
     // The bits of a word that the other word lacks.
-    pub(crate) fn minus(one: u64, other: u64) -> u64 {
+    fn minus(one: u64, other: u64) -> u64 {
         one & !other
     }
 
@@ -381,12 +425,28 @@ mod byte_set {
     }
 
     // The number whose lowest bits are set, as many as are given, or all 64.
-    pub(crate) fn ones(count: u8) -> u64 {
+    fn ones(count: u8) -> u64 {
         if count >= 64 {
             u64::MAX
         } else {
             (1 << count) - 1
         }
+    }
+
+    // The bytes of a word that, rotated right by one bit, are from the first number up to the next. The first byte of the word, so rotated,
+    // is `least`.
+    fn between(first: u16, next: u16, least: u16, word: u64) -> u64 {
+        if word == 0 {
+            return 0;
+        }
+        minus(word & halves(next, least), halves(first, least))
+    }
+
+    // The bytes of such a word that, so rotated, are below a bound. Its odd bytes are 128 more than the even ones before them.
+    fn halves(bound: u16, least: u16) -> u64 {
+        let even = bound.saturating_sub(least).min(32) as u8;
+        let odd = bound.saturating_sub(least + 128).min(32) as u8;
+        ones(2 * even) & 0x5555_5555_5555_5555 | ones(2 * odd) & 0xAAAA_AAAA_AAAA_AAAA
     }
 
     // A word of `rotated_below`. Its lower 32 bytes are, rotated, `least` and every eighth number from there, and its higher
@@ -465,7 +525,7 @@ mod classes {
     }
 
     // The class of a part of the damage.
-    fn class_of(damage_classes: u8, damage: u16, part: u16) -> u32 {
+    pub(crate) fn class_of(damage_classes: u8, damage: u16, part: u16) -> u32 {
         least_factor(damage, part).saturating_sub(217) * u32::from(damage_classes) / 39
     }
 

@@ -1,12 +1,12 @@
-use Rattle.std.proofs.Common.{ap, arith, cond, inl, inr, max, min, nat_lt, refl, ◌*◌, ◌+◌, ◌-◌, ◌/◌, ◌<◌, ◌==◌, ◌≡◌, ◌≤◌, ◌∙◌, ◌⊎◌, ℕ}
+use Rattle.std.proofs.Common.{ap, arith, cond, inl, inr, max, min, nat_le, nat_lt, refl, ◌&&◌, ◌*◌, ◌+◌, ◌-◌, ◌/◌, ◌<◌, ◌==◌, ◌≡◌, ◌≤◌, ◌∙◌, ◌⊎◌, ℕ}
 use Rattle.std.proofs.Math.Nat.{le-div_iff_mul-le, mul-add, mul_comm}
 use Rattle.std.proofs.lemmas.Bool.Decides.{nat_tests}
 use Rattle.std.proofs.lemmas.Nat.Bits.{bit_at-lt}
 use Rattle.gen1_rolls.specs.Looks.{rotated_right_1}
 use Rattle.gen1_outcomes.specs.Bytes.{has}
 use Rattle.gen1_outcomes.specs.Classes.{least_factor}
-use Rattle.gen1_outcomes.proofs.Sets.{between_has, same_test}
-use Rattle.gen1_outcomes.proofs.alike.making.Goals.{else-part-limit, then-part-limit}
+use Rattle.gen1_outcomes.proofs.Sets.{same_test}
+use Rattle.gen1_outcomes.proofs.alike.making.Goals.{else-run-limit, then-run-limit}
 use Rattle.gen1_outcomes.proofs.alike.making.Goals as goal
 
 -- A factor is below the least one that makes a part exactly if it makes less.
@@ -28,27 +28,27 @@ below_least damage part f some =
       | inr more ↦ omega (arith, more, next, some)
     ])
 
--- The factors from the least one that makes a part up to that of the next part, or all from there on at the limit.
-makes : (damage limit part f next n below first : ℕ) → 0 < damage → part ≤ limit → f < 256 → n < 2
-    → next ≡ cond (nat_lt part limit) (min (least_factor damage (part + 1)) 256) 256
-    → below ≡ cond (nat_lt f next) 1 0 → first ≡ cond (nat_lt f (min (least_factor damage part) 256)) 1 0
-    → min n below - first ≡ cond (part == min (damage * f / 255) limit) n 0
-makes damage limit part f next n below first some within small bit is e g =
-    let one = below_least damage part f some in
-    let two = below_least damage (part + 1) f some in
+-- The factors from the least one that makes the first part up to that of the part after the last, or all from there on at the limit.
+makes : (damage limit lo hi f next n below first : ℕ) → 0 < damage → lo ≤ limit → f < 256 → n < 2
+    → next ≡ cond (nat_lt hi limit) (min (least_factor damage (hi + 1)) 256) 256
+    → below ≡ cond (nat_lt f next) 1 0 → first ≡ cond (nat_lt f (min (least_factor damage lo) 256)) 1 0
+    → min n below - first ≡ cond (nat_le lo (min (damage * f / 255) limit) && nat_le (min (damage * f / 255) limit) hi) n 0
+makes damage limit lo hi f next n below first some within small bit is e g =
+    let one = below_least damage lo f some in
+    let two = below_least damage (hi + 1) f some in
     grind (arith, nat_tests, one, two, within, small, bit, is, e, g)
 
 pub returns : goal.returns
 returns c x lt =
     let damage = c.args.damage in
-    let part = c.args.part in
-    let next_is : c.if-part-limit.next ≡ cond (nat_lt part c.args.limit) (min (least_factor damage (part + 1)) 256) 256 =
-    elim c.if-part-limit.branch [
-      | then-part-limit w ↦ grind (arith, nat_tests, w.next-is, w.min.ensures, w.least_factor-then-part-limit.ensures.value, w.if-part-limit.true)
-      | else-part-limit w ↦ grind (arith, nat_tests, w.next-is, w.if-part-limit.false)
+    let last = c.args.run.last in
+    let next_is : c.if-run-limit.next ≡ cond (nat_lt last c.args.limit) (min (least_factor damage (last + 1)) 256) 256 =
+    elim c.if-run-limit.branch [
+      | then-run-limit w ↦ grind (arith, nat_tests, w.next-is, w.min.ensures, w.least_factor-then-run-limit.ensures.value, w.if-run-limit.true)
+      | else-run-limit w ↦ grind (arith, nat_tests, w.next-is, w.if-run-limit.false)
     ]
     in
-    between_has c.min-first.result c.if-part-limit.next c.args.among.now.words _ _ _ _ x lt c.between.ensures c.between-2.ensures c.between-3.ensures c.between-4.ensures
-    ∙ makes damage c.args.limit part (rotated_right_1 x) c.if-part-limit.next (has c.args.among.now x) _ _ c.requires.damage c.requires.within (omega (arith, lt))
+    c.rotated_right_between.ensures x lt
+    ∙ makes damage c.args.limit c.args.run.first last (rotated_right_1 x) c.if-run-limit.next (has c.args.among.now x) _ _ c.requires.damage c.requires.within (omega (arith, lt))
     (bit_at-lt _ _) next_is refl
     (ap (λ (n : ℕ). cond (nat_lt (rotated_right_1 x) n) 1 0) (c.min-first.ensures ∙ ap (λ (n : ℕ). min n 256) c.least_factor.ensures.value))

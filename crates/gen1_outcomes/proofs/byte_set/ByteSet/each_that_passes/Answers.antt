@@ -1,7 +1,7 @@
 use Rattle.std.proofs.Common.{arith}
 use Rattle.gen1_rolls.specs.Looks.{passes}
 use Rattle.gen1_outcomes.proofs.Sets.{gets_more}
-use Rattle.gen1_outcomes.proofs.byte_set.ByteSet.that_pass.Goals as goal
+use Rattle.gen1_outcomes.proofs.byte_set.ByteSet.each_that_passes.Goals as goal
 
 pub bytes-init : goal.bytes-init
 bytes-init c = record { below = λ x small less. absurd (omega arith); above = λ x small more. c.none-set.ensures x small }
