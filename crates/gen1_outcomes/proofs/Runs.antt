@@ -1,8 +1,10 @@
 -- The parts of a damage that are in one class.
 use Rattle.std.proofs.Common.{arith, cond, inl, inr, max, min, nat_le, refl, ap, subst, sym, Bool, true, false, ◌&&◌, ◌*◌, ◌+◌, ◌-◌, ◌/◌, ◌<◌, ◌==◌, ◌≡◌, ◌≤◌, ◌∙◌, ◌⊎◌, ℕ}
 use Rattle.std.proofs.Math.Nat.{le-div_iff_mul-le, mul-le-mul_left, mul-le-mul_right}
+use Rattle.std.proofs.lemmas.Bool.{true≢false}
 use Rattle.std.proofs.lemmas.Bool.Decides.{nat_tests}
-use Rattle.gen1_outcomes.specs.Classes.{class_of, last_factor, least_factor, part_told}
+use Rattle.gen1_rolls.specs.declared.look.Look.{Look}
+use Rattle.gen1_outcomes.specs.Classes.{alike_in, class_of, last_factor, least_factor, part_told, told}
 
 order : (m n : ℕ) → (m ≤ n) ⊎ (n < m)
 order m n = grind arith
@@ -152,3 +154,19 @@ run_below n d e p q first last some more le most at begins is =
 
 pub first_most : (n d p first : ℕ) → 0 < n → 0 < d → Begins n d (class_of n d p) first → first ≤ p
 first_most n d p first some more begins = begins-on n d p (class_of n d p) first some more begins (omega arith)
+
+-- What is alike to a byte is alike to each byte of its class.
+pub same_class : (n : ℕ) (look : Look) (first byte x m : ℕ) → cond (alike_in n look first byte) m 0 ≡ 1 → alike_in n look first x ≡ alike_in n look byte x
+same_class n look first byte x m is =
+    elim (true_or (alike_in n look first byte)) [
+      | inl e ↦ let same : told n look first ≡ told n look byte = grind (arith, nat_tests, e) in ap (λ (t : ℕ). t == told n look x) same
+      | inr e ↦ absurd (none (alike_in n look first byte) e is)
+    ]
+  where
+    true_or : (b : Bool) → (b ≡ true) ⊎ (b ≡ false)
+    true_or true = inl refl
+    true_or false = inr refl
+
+    none : (b : Bool) → b ≡ false → cond b m 0 ≡ 1 → ⊥
+    none false e is = absurd (omega (arith, is))
+    none true e is = absurd (true≢false e)

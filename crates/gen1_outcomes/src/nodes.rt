@@ -135,7 +135,8 @@ impl Node {
             total: may_have.count(),
             count: 0,
         };
-        node.take(byte);
+        let class = alike_to(damage_classes, look, byte, may_have);
+        node.take(byte, &class);
         node
     }
 
@@ -148,12 +149,12 @@ impl Node {
         self.byte == byte && self.look == look
     }
 
-    // Takes the byte, and all that are alike to it, out of the rest.
-    fn take(&mut self, byte: u8)
+    // Takes the byte, and all of its class, out of the rest.
+    fn take(&mut self, byte: u8, class: &ByteSet)
+        requires { IsClass self.old.damage_classes self.old.look byte self.old.rest class.now }
         ensures { Takes byte self.old self.new }
     {
-        let class = alike_to(self.damage_classes, self.look, byte, &self.rest);
-        self.rest = self.rest.without(&class);
+        self.rest = self.rest.without(class);
         self.byte = byte;
         self.count = class.count();
     }
@@ -166,27 +167,40 @@ impl Node {
     {
         match self.rest.first() {
             Some(first) => {
-                let byte = self.one_for(first);
-                self.take(byte);
+                let class = alike_to(self.damage_classes, self.look, first, &self.rest);
+                let byte = self.one_for(first, &class);
+                self.take(byte, &self.class_of(byte, first, class));
                 true
             }
             None => false,
         }
     }
 
+    // The class of a byte in the rest. It is the other byte's class if the byte is in it.
+    fn class_of(&self, byte: u8, first: u8, class: ByteSet) -> ByteSet
+        requires { IsClass self.now.damage_classes self.now.look first self.now.rest class }
+        ensures { IsClass self.now.damage_classes self.now.look byte self.now.rest result }
+    {
+        if class.contains(byte) {
+            class
+        } else {
+            alike_to(self.damage_classes, self.look, byte, &self.rest)
+        }
+    }
+
     // The byte of the rest that is played for those that are alike to its first: with classes of damage the middle one, and
     // else the first.
-    fn one_for(&self, first: u8) -> u8
-        requires { has self.now.rest first ≡ 1 }
+    fn one_for(&self, first: u8, class: &ByteSet) -> u8
+        requires first { has self.now.rest first ≡ 1 }
+        requires class { IsClass self.now.damage_classes self.now.look first self.now.rest class.now }
         ensures left { has self.now.rest result ≡ 1 }
-        ensures middle { (class : ByteSet) → IsRun self.now first class → result ≡ middle_of first (size class) }
+        ensures middle { (run : ByteSet) → IsRun self.now first run → result ≡ middle_of first (size run) }
     {
         if self.damage_classes == 0 {
             return first;
         }
         match self.look {
             Look::Factor { .. } => {
-                let class = alike_to(self.damage_classes, self.look, first, &self.rest);
                 // The bytes that a roll of damage accepts are odd.
                 let middle = first.wrapping_add(
                     class.count().saturating_sub(1).min(38) as u8 / 2 * 2,

@@ -1310,7 +1310,8 @@ mod nodes {
                 total: may_have.count(),
                 count: 0,
             };
-            node.take(byte);
+            let class = alike_to(damage_classes, look, byte, may_have);
+            node.take(byte, &class);
             node
         }
 
@@ -1320,10 +1321,9 @@ mod nodes {
             self.byte == byte && self.look == look
         }
 
-        // Takes the byte, and all that are alike to it, out of the rest.
-        fn take(&mut self, byte: u8) {
-            let class = alike_to(self.damage_classes, self.look, byte, &self.rest);
-            self.rest = self.rest.without(&class);
+        // Takes the byte, and all of its class, out of the rest.
+        fn take(&mut self, byte: u8, class: &ByteSet) {
+            self.rest = self.rest.without(class);
             self.byte = byte;
             self.count = class.count();
         }
@@ -1332,23 +1332,32 @@ mod nodes {
         fn advance(&mut self) -> bool {
             match self.rest.first() {
                 Some(first) => {
-                    let byte = self.one_for(first);
-                    self.take(byte);
+                    let class = alike_to(self.damage_classes, self.look, first, &self.rest);
+                    let byte = self.one_for(first, &class);
+                    self.take(byte, &self.class_of(byte, first, class));
                     true
                 }
                 None => false,
             }
         }
 
+        // The class of a byte in the rest. It is the other byte's class if the byte is in it.
+        fn class_of(&self, byte: u8, first: u8, class: ByteSet) -> ByteSet {
+            if class.contains(byte) {
+                class
+            } else {
+                alike_to(self.damage_classes, self.look, byte, &self.rest)
+            }
+        }
+
         // The byte of the rest that is played for those that are alike to its first: with classes of damage the middle one, and
         // else the first.
-        fn one_for(&self, first: u8) -> u8 {
+        fn one_for(&self, first: u8, class: &ByteSet) -> u8 {
             if self.damage_classes == 0 {
                 return first;
             }
             match self.look {
                 Look::Factor { .. } => {
-                    let class = alike_to(self.damage_classes, self.look, first, &self.rest);
                     // The bytes that a roll of damage accepts are odd.
                     let middle = first.wrapping_add(
                         class.count().saturating_sub(1).min(38) as u8 / 2 * 2,

@@ -1,4 +1,4 @@
-use Rattle.std.proofs.Common.{ap, arith, cond, inl, inr, max, min, nat_le, nat_lt, refl, ◌&&◌, ◌*◌, ◌+◌, ◌-◌, ◌/◌, ◌<◌, ◌==◌, ◌≡◌, ◌≤◌, ◌∙◌, ◌⊎◌, ℕ}
+use Rattle.std.proofs.Common.{ap, arith, cond, inl, inr, max, min, nat_le, nat_lt, refl, ◌&&◌, ◌*◌, ◌+◌, ◌-◌, ◌/◌, ◌<◌, ◌≡◌, ◌≤◌, ◌∙◌, ◌⊎◌, ℕ}
 use Rattle.std.proofs.Math.Nat.{le-div_iff_mul-le, mul-add, mul_comm}
 use Rattle.std.proofs.lemmas.Bool.Decides.{nat_tests}
 use Rattle.std.proofs.lemmas.Nat.Bits.{bit_at-lt}
