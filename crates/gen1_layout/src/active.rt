@@ -23,6 +23,7 @@ const MIDDLE: u8 = 6;
 
 impl Packed {
     /// The first type of the member that is out. It can differ from its species' type.
+    #[tactic(auto, using(crate::proofs::WaysBack::element_back))]
     pub fn first_type(&self, side: Side) -> Element
         ensures stands { Reads self.now result λ f. (active_in side f).first_type }
     {

@@ -20,6 +20,7 @@ use gen1_machine::{DisabledSlot, Side};
 
 impl Packed {
     /// All conditions of the member that is out.
+    #[tactic(auto, using(crate::proofs::Counts::number_small, crate::proofs::WaysBack::long_back))]
     pub fn conditions(&self, side: Side) -> Conditions
         ensures stands { Reads self.now result.0 λ f. conditions_number (conditions_in side f) }
     {

@@ -64,6 +64,7 @@ impl Packed {
         self.header_mut().copy_from_slice(header);
     }
 
+    #[tactic(auto, using(crate::proofs::Begun::begin_step))]
     fn begin_side(&mut self, side: Side, members: &[Member])
         requires few { length members.now ≤ 6 }
         requires blank { (side_of side self.old).members ≡ replicate 6 (replicate 24 0) }
@@ -78,6 +79,7 @@ impl Packed {
     }
 }
 
+#[tactic(auto, unfolding(gen1_rolls::specs::Streams::byte_at))]
 fn header_bytes(seed: &[u8], rules: Rules, limit: TurnLimit) -> [u8; 24]
     requires seed { length seed.now ≡ 10 }
     ensures terms { IsTerms (record { rules = rules; limit = limit }) }

@@ -15,6 +15,7 @@ use gen1_rolls::LinkRandom;
 
 impl Packed {
     /// The turn, 0 to the turn limit.
+    #[tactic(auto, using(crate::proofs::Steps::packed_of, crate::proofs::WaysBack::turn_packs, crate::proofs::WaysBack::word_back))]
     pub fn turn(&self) -> u16
         ensures stands { Reads self.now result λ f. f.turn }
         ensures packs { ReadsPacked self.now result λ f. f.turn }
@@ -23,6 +24,7 @@ impl Packed {
     }
 
     /// The last damage, in HP, 0 to 65,535. Both sides share it.
+    #[tactic(auto, using(crate::proofs::Steps::packed_of, crate::proofs::WaysBack::word_back))]
     pub fn last_damage(&self) -> u16
         ensures stands { Reads self.now result λ f. f.last_damage }
         ensures packs { ReadsPacked self.now result λ f. f.last_damage }
@@ -31,6 +33,7 @@ impl Packed {
     }
 
     /// The outcome: the battle continues, side 1 or side 2 has won, it is a tie, or it ended by fault 1 or 2.
+    #[tactic(auto, using(crate::proofs::Steps::packed_of, crate::proofs::WaysBack::outcome_back))]
     pub fn outcome(&self) -> Outcome
         ensures stands { Reads self.now result λ f. f.outcome }
         ensures packs { ReadsPacked self.now result λ f. f.outcome }
@@ -39,6 +42,7 @@ impl Packed {
     }
 
     /// What a side is asked for: nothing, a move, or a switch.
+    #[tactic(auto, using(crate::proofs::Steps::packed_of, crate::proofs::WaysBack::request_back))]
     pub fn request(&self, side: Side) -> Request
         ensures stands { Reads self.now result (request_of side) }
         ensures packs { ReadsPacked self.now result (request_of side) }
@@ -50,6 +54,7 @@ impl Packed {
     }
 
     /// The last turn, 1 to 9,999.
+    #[tactic(auto, using(crate::proofs::Steps::packed_of, crate::proofs::WaysBack::limit_packs, crate::proofs::WaysBack::word_back))]
     pub fn limit(&self) -> u16
         ensures stands { ReadsSetting self.now result λ g. g.terms.limit }
         ensures packs { ReadsPackedSetting self.now result λ g. g.terms.limit }
@@ -70,6 +75,7 @@ impl Packed {
 
     /// Whether the sleep clause holds: a sleep move fails while an earlier one keeps a living member of the foe's
     /// side asleep.
+    #[tactic(auto, using(crate::proofs::Steps::packed_of, crate::proofs::WaysBack::sleep_back))]
     pub fn sleep_clause(&self) -> bool
         ensures stands { ReadsSetting self.now result λ g. g.terms.rules.sleep_clause }
         ensures packs { ReadsPackedSetting self.now result λ g. g.terms.rules.sleep_clause }
@@ -78,6 +84,7 @@ impl Packed {
     }
 
     /// Whether the freeze clause holds: a freeze does nothing while a living member of the foe's side is frozen.
+    #[tactic(auto, using(crate::proofs::Steps::packed_of, crate::proofs::WaysBack::freeze_back))]
     pub fn freeze_clause(&self) -> bool
         ensures stands { ReadsSetting self.now result λ g. g.terms.rules.freeze_clause }
         ensures packs { ReadsPackedSetting self.now result λ g. g.terms.rules.freeze_clause }
@@ -86,6 +93,7 @@ impl Packed {
     }
 
     /// Writes the last damage, in HP.
+    #[tactic(auto, using(crate::proofs::Steps::header_packed, crate::proofs::Steps::packed_of, crate::proofs::Steps::still_within, crate::proofs::WaysBack::header_packs), unfolding(gen1_machine::specs::State::with_last_damage))]
     pub fn put_last_damage(&mut self, damage: u16)
         ensures stands { Changes self.old self.new (with_last_damage damage) }
         ensures packs { ChangesPacked self.old self.new (with_last_damage damage) }
@@ -94,6 +102,7 @@ impl Packed {
     }
 
     /// Writes the outcome.
+    #[tactic(auto, using(crate::proofs::Steps::header_packed, crate::proofs::Steps::packed_of, crate::proofs::Steps::still_within, crate::proofs::WaysBack::header_packs), unfolding(gen1_machine::specs::State::with_outcome))]
     pub fn put_outcome(&mut self, outcome: Outcome)
         ensures stands { (g : Setting) (f : Field) → Within g self.old f → IsOutcome outcome
             → Within g self.new (with_outcome outcome f) }
@@ -105,6 +114,7 @@ impl Packed {
     }
 
     /// Writes what both sides are asked for.
+    #[tactic(auto, using(crate::proofs::Steps::header_packed, crate::proofs::Steps::packed_of, crate::proofs::Steps::still_within, crate::proofs::WaysBack::header_packs), unfolding(gen1_machine::specs::State::with_requests))]
     pub fn put_requests(&mut self, one: Request, two: Request)
         ensures stands { Changes self.old self.new (with_requests one two) }
         ensures packs { ChangesPacked self.old self.new (with_requests one two) }
@@ -117,6 +127,7 @@ impl Packed {
     }
 
     /// Advances to the next turn, which must be at most the limit.
+    #[tactic(auto, using(crate::proofs::Steps::header_packed, crate::proofs::Steps::packed_of, crate::proofs::Steps::still_within, crate::proofs::WaysBack::header_packs), unfolding(gen1_machine::specs::State::with_next_turn))]
     pub fn put_next_turn(&mut self)
         ensures stands { (g : Setting) (f : Field) → Within g self.old f → f.turn < g.terms.limit
             → Within g self.new (with_next_turn f) }

@@ -44,6 +44,7 @@ impl Packed {
     }
 
     /// The maximum HP of the member that is out, 11 to 999.
+    #[tactic(auto, using(crate::proofs::WaysBack::max_fits, crate::proofs::WaysBack::word_back))]
     pub fn max_hp(&self, side: Side) -> u16
         ensures stands { Reads self.now result λ f. (member_in side f).max }
     {
@@ -51,6 +52,7 @@ impl Packed {
     }
 
     /// The HP of the member that is out, 0 to its maximum HP.
+    #[tactic(auto, using(crate::proofs::WaysBack::hp_fits, crate::proofs::WaysBack::word_back))]
     pub fn hp(&self, side: Side) -> u16
         ensures stands { Reads self.now result λ f. (member_in side f).hp }
     {
@@ -81,6 +83,7 @@ impl Packed {
 
     /// The status of the member that is out. A sleep has 1 to 7 turns left.
     #[inline(always)] // docs/SPEED.md, "Hints on inlining"
+    #[tactic(auto, using(crate::proofs::Steps::member_ok, crate::proofs::WaysBack::status_back))]
     pub fn status(&self, side: Side) -> Status
         ensures stands { Reads self.now result λ f. (member_in side f).status }
     {
@@ -90,6 +93,7 @@ impl Packed {
 
     /// The number of the move in a slot, 1 to 4, of the member that is out. The number is 1 to 164, or 0 for an empty
     /// slot.
+    #[tactic(auto, using(crate::proofs::WaysBack::id_at))]
     pub fn move_in(&self, side: Side, slot: u8) -> u8
         requires low { 1 ≤ slot }
         requires high { slot ≤ 4 }
@@ -99,6 +103,7 @@ impl Packed {
     }
 
     /// The PP of the move in a slot, 1 to 4, of the member that is out: 0 to 63, and 0 for an empty slot.
+    #[tactic(auto, using(crate::proofs::WaysBack::pp_at))]
     pub fn pp(&self, side: Side, slot: u8) -> u8
         requires low { 1 ≤ slot }
         requires high { slot ≤ 4 }
@@ -108,6 +113,7 @@ impl Packed {
     }
 
     /// The number of the species of the member at a place, 1 to 6. The number is 1 to 151, or 0 for an empty place.
+    #[tactic(auto, using(crate::proofs::Steps::packed_of))]
     pub fn species_at(&self, side: Side, place: u8) -> u8
         requires low { 1 ≤ place }
         requires high { place ≤ 6 }
@@ -175,6 +181,7 @@ impl Packed {
 
     /// The number of the move in a slot, 1 to 4, of the member at a place, 1 to 6. The number is 1 to 164, or 0 for
     /// an empty slot or place.
+    #[tactic(auto, using(crate::proofs::WaysBack::id_at))]
     pub fn move_at(&self, side: Side, place: u8, slot: u8) -> u8
         requires low { 1 ≤ place }
         requires high { place ≤ 6 }
@@ -187,6 +194,7 @@ impl Packed {
     }
 
     /// The PP of that move, 0 to 63, or 0 for an empty slot or place.
+    #[tactic(auto, using(crate::proofs::WaysBack::pp_at))]
     pub fn pp_at(&self, side: Side, place: u8, slot: u8) -> u8
         requires low { 1 ≤ place }
         requires high { place ≤ 6 }
@@ -199,6 +207,7 @@ impl Packed {
     }
 
     /// Whether the member at a place, 1 to 6, sleeps by the foe's move, and the sleep clause counts it.
+    #[tactic(auto, using(crate::proofs::WaysBack::bit_back))]
     pub fn mark(&self, side: Side, place: u8) -> bool
         requires low { 1 ≤ place }
         requires high { place ≤ 6 }

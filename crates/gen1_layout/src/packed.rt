@@ -144,6 +144,7 @@ impl Packed {
     }
 
     /// The 24 bytes of the header.
+    #[tactic(auto, using(crate::proofs::WaysBack::header_packs))]
     pub fn header(&self) -> &[u8]
         ensures value { result.now ≡ self.now.header }
         ensures packs { (g : Setting) (f : Field) → Packs g self.now f

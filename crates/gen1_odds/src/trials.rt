@@ -71,6 +71,7 @@ pub(crate) fn trial_of(effect: Effect) -> Trial
 }
 
 /// The number of the move that was used last, or 0 for none.
+#[tactic(auto, using(gen1_layout::proofs::Steps::active_ok))]
 pub(crate) fn current_number(battle: &Packed, side: Side) -> u8
     ensures stands { Reads battle.now result λ f.
         number_in (active_in side f).current_move (member_in side f).moves }

@@ -141,6 +141,7 @@ fn has_no_pick(battle: &Packed, side: Side, status: u8) -> bool
 
 // A switch, instead of a move.
 #[inline(always)]
+#[tactic(auto, using(crate::proofs::OneChoice::switches_out))]
 fn may_switch_out(battle: &Packed, side: Side, place: u8) -> bool
     requires low { 1 ≤ place }
     requires high { place ≤ 6 }
@@ -154,6 +155,7 @@ fn may_switch_out(battle: &Packed, side: Side, place: u8) -> bool
 }
 
 #[inline(always)]
+#[tactic(auto, using(crate::proofs::TestedChoice::out_already, crate::proofs::TestedChoice::out_yet))]
 fn may_switch(battle: &Packed, side: Side, place: u8) -> bool
     requires low { 1 ≤ place }
     requires high { place ≤ 6 }

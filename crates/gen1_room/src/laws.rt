@@ -2,6 +2,7 @@
 ghost use Rattle.gen1_room.specs.Blind.{PairsAreAnswered, RepliesHideChoices};
 
 /// Until a pair has ended, no reply depends on which of the offered choices a side has made for it.
+#[tactic(auto, using(crate::proofs::Blind::replies_hide_choices))]
 pub fn replies_hide_choices()
     ensures { RepliesHideChoices }
 {}

@@ -48,6 +48,7 @@ fn start(battle: &mut Battle, events: &mut EventList, log: &mut LogBuf)
 }
 
 // A battle that isn't over asks neither side for anything only before its start.
+#[tactic(auto, using(crate::proofs::Ending::begun_asks, crate::proofs::Ending::begun_over))]
 fn has_not_begun(battle: &Battle) -> bool
     ensures turn { (s : State) → Stands battle.now s → result ≡ (s.field.turn == 0) }
     ensures valid { StandsForSome battle.now }

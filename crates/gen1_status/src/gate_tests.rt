@@ -76,6 +76,7 @@ fn acts_at_once(battle: &Packed, side: Side, pick: Pick) -> bool
 }
 
 // By the byte of a member's status.
+#[tactic(auto, using(crate::proofs::StatusBytes::keeps))]
 fn keeps_from_acting(byte: u8) -> bool
     ensures { (rules : Rules) (status : StatusOf) → IsStatus rules status
         → byte ≡ status_byte status → result ≡ keeps_from_acting status }

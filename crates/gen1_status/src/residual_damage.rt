@@ -60,6 +60,7 @@ pub fn suffers(battle: &Packed, side: Side) -> bool
 }
 
 // By the byte of a member's status.
+#[tactic(auto, using(crate::proofs::StatusBytes::takes))]
 fn takes_hp(byte: u8) -> bool
     ensures { (rules : Rules) (status : StatusOf) → IsStatus rules status
         → byte ≡ status_byte status → result ≡ takes_hp status }

@@ -44,6 +44,7 @@ pub fn make_substitute<S: EventSink>(battle: &mut Packed, side: Side, events: &m
 }
 
 // A quarter of the maximum HP, which is at most 999.
+#[tactic(auto, using(gen1_layout::proofs::Steps::member_ok))]
 fn quarter(battle: &Packed, side: Side) -> u8
     ensures stands { Reads battle.now result λ f. (member_in side f).max / 4 }
     ensures most { result ≤ 249 }

@@ -8,6 +8,7 @@ use gen1_tables::{MoveId, Species};
 
 /// Returns the species that a text names; only letters and digits count, in either case (docs/TEAM_TEXT.md, "Names"). Each species
 /// is found by its own name.
+#[tactic(auto, using(crate::proofs::IdLemmas::species_by_letters, crate::proofs::IdLemmas::species_own))]
 pub fn species_called(text: &[u8]) -> Option<Species>
     ensures value { result ≡ species_called text.now }
     ensures letters { result ≡ species_called (id_of text.now) }
@@ -18,6 +19,7 @@ pub fn species_called(text: &[u8]) -> Option<Species>
 
 /// Returns the move that a text names; only letters and digits count, in either case (docs/TEAM_TEXT.md, "Names"). Each move is
 /// found by its own name, and two also by their names in other generations.
+#[tactic(auto, using(crate::proofs::IdLemmas::move_by_letters, crate::proofs::IdLemmas::move_own))]
 pub fn move_called(text: &[u8]) -> Option<MoveId>
     ensures value { result ≡ move_called text.now }
     ensures letters { result ≡ move_called (id_of text.now) }

@@ -75,6 +75,7 @@ fn packed_moves(moves: &[(MoveId, u8)]) -> ArrayVec<u8, 60>
 }
 
 // The letters and digits of a name, in lower case.
+#[tactic(auto, using(crate::proofs::Joins::id_short))]
 fn letters(name: &[u8]) -> ArrayVec<u8, 14>
     requires { length name.now ≤ 14 }
     ensures { result.items ≡ id_of name.now }

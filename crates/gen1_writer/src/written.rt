@@ -46,6 +46,7 @@ pub fn team_to_packed(specs: &[MemberSpec]) -> Result<ArrayVec<u8, 800>, WriteFa
 }
 
 // Why members have no text.
+#[tactic(auto, using(crate::proofs::Writable::has_dvs))]
 fn refusal(specs: &[MemberSpec]) -> Option<WriteFault>
     ensures value { result ≡ write_refusal specs.now }
     ensures allowed { IfNone result (IsTeam (team_of specs.now)) }

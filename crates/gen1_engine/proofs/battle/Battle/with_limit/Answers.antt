@@ -1,5 +1,0 @@
-use Rattle.gen1_machine.specs.State.{first_state}
-use Rattle.gen1_engine.proofs.battle.Battle.with_limit.Goals as goal
-
-pub invariant_of-result : goal.invariant_of-result
-invariant_of-result c = record { state = first_state (record { rules = c.args.rules; limit = c.args.limit }) c.args.one.now c.args.two.now c.args.seed; stands = c.with_limit.ensures }

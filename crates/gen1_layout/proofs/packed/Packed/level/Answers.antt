@@ -1,6 +1,0 @@
-use Rattle.std.proofs.Common.{refl}
-use Rattle.gen1_layout.proofs.packed.Packed.level.Goals as goal
-
-pub returns : goal.returns
-returns c =
-    record { stands = λ g f h. rw (c.member_out.ensures.stands g f h) refl }

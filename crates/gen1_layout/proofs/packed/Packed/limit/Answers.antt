@@ -1,9 +1,0 @@
-use Rattle.gen1_layout.proofs.Words.{[], packed_of, word_back}
-use Rattle.gen1_layout.proofs.WaysBack.{limit_packs}
-use Rattle.gen1_layout.proofs.packed.Packed.limit.Goals as goal
-
-pub returns-clause-packs : goal.returns-clause-packs
-returns-clause-packs c g f h = rw (c.read_u16.ensures, c.header.ensures.packs g f h) (word_back g.terms.limit [] (limit_packs h))
-
-pub returns-clause-stands : goal.returns-clause-stands
-returns-clause-stands c g f h = returns-clause-packs c g f (packed_of h)
