@@ -10,6 +10,7 @@ use Rattle.gen1_outcomes.specs.declared.successor.Successor.{Successor}
 use Rattle.gen1_outcomes.specs.Complete.{IsExact, ListsEvery}
 use Rattle.gen1_outcomes.specs.Listing.{EachFollows, sum_of}
 use Rattle.gen1_outcomes.specs.Shares.{weight_at}
+use Rattle.gen1_outcomes.specs.Weights.{HasProbabilities}
 use Rattle.gen1_c.specs.Codes.{refusal_code}
 use Rattle.gen1_c.specs.declared.outcomes.OutcomeForm.{OutcomeForm}
 use Rattle.gen1_c.specs.declared.outcomes.OutcomeList.{OutcomeList}
@@ -46,12 +47,13 @@ AreProbable least successors list =
     (k : ℕ) → (past : Successor) → k < list.count → least * whole_of list ≤ weight_at successors k past * 4294967296
 
 -- each battle in the first places can follow from the pair, by a way that is noted by the options, and the weights and what is left out sum to the whole; if nothing is left
--- out and no two damages share a class, there is one for every stream
+-- out and no two damages share a class, there is one for every stream, and each has as its weight over the whole the probability that the update leads to it
 pub record AreListed (s : State) (one two : Choice) (options : OutcomeOptions) (successors : List Successor) (list : OutcomeList) : Type 0 where
   pub within : list.count ≤ length successors
   pub follow : EachFollows s one two options list.count successors
   pub sum : sum_of list.count successors + left_out_of list ≡ whole_of list
   pub every : IsExact options → ListsEvery s one two list.count successors
+  pub weights : IsExact options → HasProbabilities s one two list.count (whole_of list) successors
 
 -- for a refused pair its code, and nothing has changed; for any other a list, if the code is 0
 abbrev pub ListsAs : Answer → State → ℕ × ℕ → OutcomeOptions → Arrays → Arrays → OutcomeList → ℕ → Type 0

@@ -1,5 +1,5 @@
 -- Every stream goes by the draws of some way, so a list in one stage has a battle for every stream.
-use Rattle.std.proofs.Common.{◌≡◌, ◌≢◌, ◌⊎◌, inl, inr, ℕ, zero, suc, ◌*◌, ◌+◌, ◌<◌, ◌≤◌, ◌==◌, Bool, IsTrue, true, false, List, [], ◌∷◌, Option, None, Some, add-one, ap, arith, cond, get_or, length, refl, subst, sym, ◌∙◌, Err, IfOk, Ok, OnOk, Result}
+use Rattle.std.proofs.Common.{◌≡◌, ◌⊎◌, inl, inr, ℕ, zero, suc, ◌*◌, ◌+◌, ◌<◌, ◌≤◌, ◌==◌, Bool, IsTrue, true, false, List, [], ◌∷◌, Option, None, Some, add-one, ap, arith, cond, get_or, length, refl, subst, sym, ◌∙◌, Err, IfOk, Ok, OnOk, Result}
 use Rattle.std.proofs.lemmas.Bool.Decides.{nat_tests}
 use Rattle.std.proofs.lemmas.List.{get_or_default}
 use Rattle.gen1_rolls.specs.declared.look.ByteTest.{ByteTest}
@@ -20,8 +20,8 @@ use Rattle.gen1_outcomes.specs.declared.options.OutcomeOptions.{OutcomeOptions}
 use Rattle.gen1_outcomes.specs.Bytes.{has}
 use Rattle.gen1_outcomes.specs.Classes.{alike_in, told}
 use Rattle.gen1_outcomes.specs.Complete.{GoesBy, IsExact, IsToCome, WaitsAfter, byte_for, byte_or_zero, place_asked, place_before, IsListed, ListsEvery, Extends, FollowsFrom, IsHandled, ArrivesAt, Lists, ListsFrom, ListsHandled, LosesNone, Offers, OffersTwo}
-use Rattle.gen1_outcomes.specs.Logs.{AllFit, Fits, NotesAll, NotesEntry, place_after, place_past, Agrees, IsLogged}
-use Rattle.gen1_outcomes.specs.Nodes.{AllDone, AreBytes, AreLeft, AreOn, AreToCome, IsSettled, LeadsOn, Notes, Noting, Passes, PassesBy, asked_at}
+use Rattle.gen1_outcomes.specs.Logs.{AllFit, Fits, NotesAll, NotesEntry, place_after, place_at, place_past, Agrees, IsLogged}
+use Rattle.gen1_outcomes.specs.Nodes.{AllDone, AreBytes, AreLeft, AreOn, AreToCome, IsSettled, LeadsOn, Notes, Passes, asked_at}
 use Rattle.gen1_outcomes.proofs.Logs.{entry_keeps}
 use Rattle.gen1_outcomes.proofs.Shifts.{NoneMissed, arrives_by, dropped, dropped-is, follows_arrived, follows_from}
 use Rattle.gen1_outcomes.proofs.Walking.{at, some_node}
@@ -52,7 +52,7 @@ three m n = grind arith
 same_of : (a b : ℕ) → (a == b) ≡ true → a ≡ b
 same_of a b e = grind (arith, nat_tests)
 
--- Without classes of damage all is told apart that is seen.
+-- Without classes of damage all that is seen is distinguished.
 told_sees : (look : Look) (b : ℕ) → told 0 look b ≡ sees look b
 told_sees (Below bound) b = refl
 told_sees (RotatedBelow bound) b = refl
@@ -64,8 +64,8 @@ alike_sees classes look x y none e =
     let here : alike_in 0 look x y ≡ true = subst (λ (n : ℕ). alike_in n look x y ≡ true) none e in
     sym (told_sees look x) ∙ same_of (told 0 look x) (told 0 look y) here ∙ told_sees look y
 
--- A byte can be asked for, and the look sees each part of it that is told apart.
-abbrev CanAsk : Asked → Type 0
+-- A byte can be asked for, and the look sees each part of it that is distinguished.
+abbrev pub CanAsk : Asked → Type 0
 CanAsk Next = Unit {0}
 CanAsk (First test) = (b : ℕ) × (b < 256) × IsTrue (passes test b)
 CanAsk Unknown = ⊥
@@ -79,26 +79,26 @@ AreKnown nodes = (k : ℕ) → k < nodes.len → IsKnownAt nodes k
 
 -- Bytes of a stream.
 
-byte_or-small : (s : Stream) → IsStream s → (o : Option ℕ) → byte_or_zero s o < 256
+pub byte_or-small : (s : Stream) → IsStream s → (o : Option ℕ) → byte_or_zero s o < 256
 byte_or-small s is (Some m) = byte-small s m is
 byte_or-small s is None = omega arith
 
 pub bytes_small : (asked : ℕ → Asked) (s : Stream) → IsStream s → AreBytes (byte_for asked s)
 bytes_small asked s is k = byte_or-small s is (place_asked (asked k) s (place_before asked s k))
 
-place_same : (f g : ℕ → Asked) (s : Stream) (n : ℕ) → ((k : ℕ) → k < n → f k ≡ g k) → place_before f s n ≡ place_before g s n
+pub place_same : (f g : ℕ → Asked) (s : Stream) (n : ℕ) → ((k : ℕ) → k < n → f k ≡ g k) → place_before f s n ≡ place_before g s n
 place_same f g s zero same = refl
 place_same f g s (suc n) same =
     let before : place_before f s n ≡ place_before g s n = place_same f g s n (λ k lt. same k (omega (arith, lt))) in
     let here : f n ≡ g n = same n (omega arith) in
     ap (λ (p : ℕ). place_past (place_asked (f n) s p) p) before ∙ ap (λ (a : Asked). place_past (place_asked a s (place_before g s n)) (place_before g s n)) here
 
-byte_same : (f g : ℕ → Asked) (s : Stream) (n : ℕ) → ((k : ℕ) → k < n → f k ≡ g k) → (k : ℕ) → k < n → byte_for f s k ≡ byte_for g s k
+pub byte_same : (f g : ℕ → Asked) (s : Stream) (n : ℕ) → ((k : ℕ) → k < n → f k ≡ g k) → (k : ℕ) → k < n → byte_for f s k ≡ byte_for g s k
 byte_same f g s n same k lt =
     ap (λ (p : ℕ). byte_or_zero s (place_asked (f k) s p)) (place_same f g s k (λ j less. same j (omega (arith, less, lt))))
     ∙ ap (λ (a : Asked). byte_or_zero s (place_asked a s (place_before g s k))) (same k lt)
 
-on_same : (nodes : Nodes) (n : ℕ) (f g : ℕ → ℕ) → ((k : ℕ) → k < n → f k ≡ g k) → AreOn nodes n f → AreOn nodes n g
+pub on_same : (nodes : Nodes) (n : ℕ) (f g : ℕ → ℕ) → ((k : ℕ) → k < n → f k ≡ g k) → AreOn nodes n f → AreOn nodes n g
 on_same nodes n f g same on k past lt =
     subst (λ (b : ℕ). alike_in (at nodes k past).damage_classes (at nodes k past).look (at nodes k past).byte b ≡ true) (same k lt) (on k past lt)
 
@@ -112,7 +112,7 @@ left_same nodes f g same left =
     }
 
 -- The byte that a stream has for a draw passes its test.
-asked_passes : (asked : Asked) (test : ByteTest) (s : Stream) (n : ℕ) → IsStream s → asked ≡ First test → CanAsk asked
+pub asked_passes : (asked : Asked) (test : ByteTest) (s : Stream) (n : ℕ) → IsStream s → asked ≡ First test → CanAsk asked
     → (m : ℕ) × (place_asked asked s n ≡ Some m) × IsTrue (passes test (byte_at s m))
 asked_passes asked test s n is e can =
     let some : (b : ℕ) × (b < 256) × IsTrue (passes test b) = subst (λ (a : Asked). CanAsk a) e can in
@@ -120,7 +120,7 @@ asked_passes asked test s n is e can =
     (found.0, ap (λ (a : Asked). place_asked a s n) e ∙ found.1, (first-finds s n (passes test) found.0 found.1).meets)
 
 -- A draw of a way is an entry of its log.
-abbrev IsEntry : Entry → Nodes → ℕ → Type 0
+abbrev pub IsEntry : Entry → Nodes → ℕ → Type 0
 IsEntry (Draw look b) nodes k = (asked_at nodes k ≡ Next) × ((past : Node) → ((at nodes k past).look ≡ look) × ((at nodes k past).byte ≡ b))
 IsEntry (Found test look b) nodes k = (asked_at nodes k ≡ First test) × ((past : Node) → ((at nodes k past).look ≡ look) × ((at nodes k past).byte ≡ b))
 IsEntry (Missed test) nodes k = ⊥
@@ -162,15 +162,15 @@ entry_fits (Found test look b) nodes k s past is lt known entry goes =
 entry_fits (Missed test) nodes k s past is lt known entry goes = absurd entry
 
 -- What a draw or a search makes of the draws.
-record Steps (e : Entry) (old new : Nodes) : Type 0 where
-  known : AreKnown new
-  past : new.at ≡ old.at + 1
-  within : new.at ≤ new.len
-  longer : old.len ≤ new.len
-  asked : (k : ℕ) → k < old.len → asked_at new k ≡ asked_at old k
-  same : (k : ℕ) (past : Node) → k < old.len → at new k past ≡ at old k past
-  entry : IsEntry e new old.at
-  to_come : (s : Stream) → IsStream s → IsToCome old s → IsToCome new s
+pub record Steps (e : Entry) (old new : Nodes) : Type 0 where
+  pub known : AreKnown new
+  pub past : new.at ≡ old.at + 1
+  pub within : new.at ≤ new.len
+  pub longer : old.len ≤ new.len
+  pub asked : (k : ℕ) → k < old.len → asked_at new k ≡ asked_at old k
+  pub same : (k : ℕ) (past : Node) → k < old.len → at new k past ≡ at old k past
+  pub entry : IsEntry e new old.at
+  pub to_come : (s : Stream) → IsStream s → IsToCome old s → IsToCome new s
 
 -- How many draws a way has had so far changes nothing of that.
 passed_come : (nodes : Nodes) (n : ℕ) (s : Stream) → IsToCome nodes s → IsToCome (record nodes { at = n }) s
@@ -254,27 +254,23 @@ added_as e b asked look may old new entry can has_it known exact all fits (inr (
     absurd (omega (arith, below, ap (λ (n : ℕ). n * c.whole) exact.least))
 added_as e b asked look may old new entry can has_it known exact all fits (inr (inr marked)) = absurd (fits marked.marked)
 
-settled_not : (old : Noting) → old.left ≡ 0 → old.nodes.len ≤ old.nodes.at → old.nodes.options.least ≡ 0 → IsSettled old → ⊥
-settled_not old none after least (inl some) = some none
-settled_not old none after least (inr (inl less)) = omega (arith, less, after)
-settled_not old none after least (inr (inr left)) =
+pub settled_not : (old : Nodes) → old.len ≤ old.at → old.options.least ≡ 0 → IsSettled old → ⊥
+settled_not old after least (inl less) = omega (arith, less, after)
+settled_not old after least (inr left) =
     let c = left.0 in let below = left.2 in omega (arith, below, ap (λ (n : ℕ). n * c.whole) least)
 
-step_as : (e : Entry) (old new : Noting) → old.left ≡ 0 → AreKnown old.nodes → old.nodes.at ≤ old.nodes.len → IsExact old.nodes.options
-    → (new.nodes.too_large ≡ true → ⊥) → NotesEntry e old new → (new.left ≡ 0) × Steps e old.nodes new.nodes
-step_as (Draw look b) old new none known within exact fits notes =
+pub step_as : (e : Entry) (old new : Nodes) → AreKnown old → old.at ≤ old.len → IsExact old.options → (new.too_large ≡ true → ⊥) → NotesEntry e old new → Steps e old new
+step_as (Draw look b) old new known within exact fits notes =
     elim notes [
-      | inl passes ↦ (passes.still none, passed_as (Draw look b) b Next look old.nodes new.nodes (λ nodes k is. is) known fits (passes.passed none))
+      | inl passes ↦ passed_as (Draw look b) b Next look old new (λ nodes k is. is) known fits passes
       | inr adds ↦
-          let fresh = adds.2.fresh in (
-            adds.2.still,
-            added_as (Draw look b) b Next look adds.0 old.nodes new.nodes (λ nodes k is. is) tt (λ s n is. adds.1 (byte_at s n) (byte-small s n is)) known exact
-                (omega (arith, within, fresh.after)) fits adds.2.noted,
-          )
+          let fresh = adds.2.fresh in
+          added_as (Draw look b) b Next look adds.0 old new (λ nodes k is. is) tt (λ s n is. adds.1 (byte_at s n) (byte-small s n is)) known exact
+          (omega (arith, within, fresh)) fits adds.2.noted
     ]
-step_as (Found test look b) old new none known within exact fits notes =
+step_as (Found test look b) old new known within exact fits notes =
     elim notes.2 [
-      | inl passes ↦ (passes.still none, passed_as (Found test look b) b (First test) look old.nodes new.nodes (λ nodes k is. is) known fits (passes.passed none))
+      | inl passes ↦ passed_as (Found test look b) b (First test) look old new (λ nodes k is. is) known fits passes
       | inr adds ↦
           let fresh = adds.2.fresh in
           let can : CanAsk (First test) = (b, notes.0, notes.1) in
@@ -285,28 +281,20 @@ step_as (Found test look b) old new none known within exact fits notes =
                 let found = asked_passes (First test) test s n is refl can in
                 let x = byte_at s found.0 in
                 subst (λ (o : Option ℕ). has adds.0 (byte_or_zero s o) ≡ 1) (sym found.1) (passing x (byte-small s found.0 is) ∙ ap (λ (t : Bool). cond t 1 0) found.2)
-            | inr settled ↦ absurd (settled_not old none fresh.after exact.least settled.0)
+            | inr settled ↦ absurd (settled_not old fresh exact.least settled.0)
           ]
-          in (
-            adds.2.still,
-            added_as (Found test look b) b (First test) look adds.0 old.nodes new.nodes (λ nodes k is. is) can has_it known exact
-                (omega (arith, within, fresh.after)) fits adds.2.noted,
-          )
+          in
+          added_as (Found test look b) b (First test) look adds.0 old new (λ nodes k is. is) can has_it known exact
+          (omega (arith, within, fresh)) fits adds.2.noted
     ]
-step_as (Missed test) old new none known within exact fits marks = absurd (fits (ap (λ (n : Noting). n.nodes.too_large) marks))
+step_as (Missed test) old new known within exact fits marks = absurd (fits (ap (λ (n : Nodes). n.too_large) marks))
 
 -- A way that is marked stays so.
-zero_or : (n : ℕ) → (n ≡ 0) ⊎ (n ≢ 0)
-zero_or n = grind arith
-
-large_passed : (b : ℕ) (asked : Asked) (look : Look) (old new : Noting) → PassesBy b asked look old new → old.nodes.too_large ≡ true → new.nodes.too_large ≡ true
+large_passed : (b : ℕ) (asked : Asked) (look : Look) (old new : Nodes) → Passes b asked look old new → old.too_large ≡ true → new.too_large ≡ true
 large_passed b asked look old new passes is =
-    elim (zero_or old.left) [
-      | inl none ↦ elim (passes.passed none).past [
-        | inl same ↦ ap (λ (n : Nodes). n.too_large) same.1 ∙ is
-        | inr other ↦ ap (λ (n : Nodes). n.too_large) other
-      ]
-      | inr some ↦ ap (λ (n : Nodes). n.too_large) (passes.counted some).1 ∙ is
+    elim passes.past [
+      | inl same ↦ ap (λ (n : Nodes). n.too_large) same.1 ∙ is
+      | inr other ↦ ap (λ (n : Nodes). n.too_large) other
     ]
 
 large_noted : (b : ℕ) (asked : Asked) (look : Look) (may : ByteSet) (old new : Nodes) → Notes b asked look may old new → old.too_large ≡ true → new.too_large ≡ true
@@ -314,33 +302,33 @@ large_noted b asked look may old new (inl adds) is = adds.fits ∙ is
 large_noted b asked look may old new (inr (inl left)) is = ap (λ (n : Nodes). n.too_large) left.0 ∙ is
 large_noted b asked look may old new (inr (inr marked)) is = marked.marked
 
-large_entry : (e : Entry) (old new : Noting) → NotesEntry e old new → old.nodes.too_large ≡ true → new.nodes.too_large ≡ true
+large_entry : (e : Entry) (old new : Nodes) → NotesEntry e old new → old.too_large ≡ true → new.too_large ≡ true
 large_entry (Draw look b) old new notes is =
     elim notes [
       | inl passes ↦ large_passed b Next look old new passes is
-      | inr adds ↦ large_noted b Next look adds.0 old.nodes new.nodes adds.2.noted is
+      | inr adds ↦ large_noted b Next look adds.0 old new adds.2.noted is
     ]
 large_entry (Found test look b) old new notes is =
     elim notes.2 [
       | inl passes ↦ large_passed b (First test) look old new passes is
-      | inr adds ↦ large_noted b (First test) look adds.0 old.nodes new.nodes adds.2.noted is
+      | inr adds ↦ large_noted b (First test) look adds.0 old new adds.2.noted is
     ]
-large_entry (Missed test) old new marks is = ap (λ (n : Noting). n.nodes.too_large) marks
+large_entry (Missed test) old new marks is = ap (λ (n : Nodes). n.too_large) marks
 
-large_all : (es : List Entry) (old new : Noting) → NotesAll es old new → old.nodes.too_large ≡ true → new.nodes.too_large ≡ true
-large_all [] old new same is = ap (λ (n : Noting). n.nodes.too_large) same ∙ is
+pub large_all : (es : List Entry) (old new : Nodes) → NotesAll es old new → old.too_large ≡ true → new.too_large ≡ true
+large_all [] old new same is = ap (λ (n : Nodes). n.too_large) same ∙ is
 large_all (e ∷ es) old new all is = large_all es all.0 new all.2 (large_entry e old all.0 all.1 is)
 
-not_both : (b : Bool) → b ≡ true → b ≡ false → ⊥
+pub not_both : (b : Bool) → b ≡ true → b ≡ false → ⊥
 not_both b is off = cc
 
 -- A way that isn't marked has no search that found nothing.
-pub none_missed : (es : List Entry) (old new : Noting) → NotesAll es old new → new.nodes.too_large ≡ false → NoneMissed es
+pub none_missed : (es : List Entry) (old new : Nodes) → NotesAll es old new → new.too_large ≡ false → NoneMissed es
 none_missed [] old new all fits = tt
 none_missed (Draw look b ∷ es) old new all fits = none_missed es all.0 new all.2 fits
 none_missed (Found test look b ∷ es) old new all fits = none_missed es all.0 new all.2 fits
 none_missed (Missed test ∷ es) old new all fits =
-    absurd (not_both new.nodes.too_large (large_all es all.0 new all.2 (ap (λ (n : Noting). n.nodes.too_large) all.1)) fits)
+    absurd (not_both new.too_large (large_all es all.0 new all.2 (ap (λ (n : Nodes). n.too_large) all.1)) fits)
 
 -- What a log makes of the draws. A stream that goes by them agrees with the log.
 pub record IsNoted (es : List Entry) (old new : Nodes) : Type 0 where
@@ -350,10 +338,14 @@ pub record IsNoted (es : List Entry) (old new : Nodes) : Type 0 where
   pub same : (k : ℕ) (past : Node) → k < old.len → at new k past ≡ at old k past
   pub to_come : (s : Stream) → IsStream s → IsToCome old s → IsToCome new s
   pub fits : (s : Stream) → IsStream s → (past : Node) → GoesBy new s → AllFit es s (place_before (asked_at new) s old.at)
+  pub within : new.at ≤ new.len
+  pub place : (s : Stream) → place_at es s (place_before (asked_at new) s old.at) ≡ place_before (asked_at new) s new.at
 
-none_noted : (old new : Nodes) → new ≡ old → AreKnown old → IsNoted [] old new
-none_noted old new is known =
+none_noted : (old new : Nodes) → new ≡ old → AreKnown old → old.at ≤ old.len → IsNoted [] old new
+none_noted old new is known within =
     subst (λ (n : Nodes). IsNoted [] old n) (sym is) (record {
+      within = within;
+      place = λ s. refl;
       known = known;
       longer = omega arith;
       asked = λ k lt. refl;
@@ -370,29 +362,41 @@ more_noted e es old now new step rest =
       asked = λ k lt. rest.asked k (omega (arith, lt, step.longer)) ∙ step.asked k lt;
       same = λ k past lt. rest.same k past (omega (arith, lt, step.longer)) ∙ step.same k past lt;
       to_come = λ s is come. rest.to_come s is (step.to_come s is come);
-      fits = λ s is past goes.
-          let k = old.at in
-          let within : k < now.len = omega (arith, step.past, step.within) in
-          let entry : IsEntry e new k = entry_as e now new k (rest.asked k within) (λ past. rest.same k past within) step.entry in
-          let inside : k < new.len = omega (arith, within, rest.longer) in
-          let next : now.at ≡ suc k = step.past ∙ add-one k in
-          let place : place_before (asked_at new) s now.at ≡ place_after e s (place_before (asked_at new) s k) =
-          ap (place_before (asked_at new) s) next ∙ entry_place e new k s (place_before (asked_at new) s k) entry
-          in (
-            entry_fits e new k s past is inside (rest.known k inside) entry goes,
-            subst (λ (p : ℕ). AllFit es s p) place (rest.fits s is past goes),
-          );
+      fits = λ s is past goes. (
+        entry_fits e new k s past is inside (rest.known k inside) entry goes,
+        subst (λ (p : ℕ). AllFit es s p) (place s) (rest.fits s is past goes),
+      );
+      within = rest.within;
+      place = λ s. ap (place_at es s) (sym (place s)) ∙ rest.place s;
     }
+  where
+    k : ℕ
+    k = old.at
 
-pub all_noted : (es : List Entry) (old new : Noting) → old.left ≡ 0 → AreKnown old.nodes → old.nodes.at ≤ old.nodes.len → IsExact old.nodes.options
-    → new.nodes.too_large ≡ false → NotesAll es old new → IsNoted es old.nodes new.nodes
-all_noted [] old new none known within exact fits same = none_noted old.nodes new.nodes (ap (λ (n : Noting). n.nodes) same) known
-all_noted (e ∷ es) old new none known within exact fits all =
+    within : k < now.len
+    within = omega (arith, step.past, step.within)
+
+    inside : k < new.len
+    inside = omega (arith, within, rest.longer)
+
+    entry : IsEntry e new k
+    entry = entry_as e now new k (rest.asked k within) (λ past. rest.same k past within) step.entry
+
+    next : now.at ≡ suc k
+    next = step.past ∙ add-one k
+
+    place : (s : Stream) → place_before (asked_at new) s now.at ≡ place_after e s (place_before (asked_at new) s k)
+    place s = ap (place_before (asked_at new) s) next ∙ entry_place e new k s (place_before (asked_at new) s k) entry
+
+pub all_noted : (es : List Entry) (old new : Nodes) → AreKnown old → old.at ≤ old.len → IsExact old.options → new.too_large ≡ false → NotesAll es old new
+    → IsNoted es old new
+all_noted [] old new known within exact fits same = none_noted old new same known within
+all_noted (e ∷ es) old new known within exact fits all =
     let now = all.0 in
-    let step = step_as e old now none known within exact (λ is. not_both new.nodes.too_large (large_all es now new all.2 is) fits) all.1 in
+    let step = step_as e old now known within exact (λ is. not_both new.too_large (large_all es now new all.2 is) fits) all.1 in
     let options = entry_keeps e old now all.1 in
-    more_noted e es old.nodes now.nodes new.nodes step.1
-    (all_noted es now new step.0 step.1.known step.1.within (subst (λ (o : OutcomeOptions). IsExact o) (sym options) exact) fits all.2)
+    more_noted e es old now new step
+    (all_noted es now new step.known step.within (subst (λ (o : OutcomeOptions). IsExact o) (sym options) exact) fits all.2)
 
 -- After a way of which nothing is left, none is; and what is left is to come on the next way.
 pub none_left : (nodes : Nodes) (s : Stream) (past : Node) → IsStream s → AllDone nodes → WaitsAfter nodes s → ⊥
@@ -444,11 +448,11 @@ going_first Of Else nodes at empty =
     }
 
 -- A way is played.
-pub past_way : (Of : State → Type 0) (Else : State → Stream → Type 0) (script : Script) (nodes after : Nodes) (way : IsLogged script (record { left = 0; nodes = nodes }) after)
+pub past_way : (Of : State → Type 0) (Else : State → Stream → Type 0) (script : Script) (nodes after : Nodes) (way : IsLogged script nodes after)
     → IsExact nodes.options → after.too_large ≡ false → IsGoing Of Else nodes → IsPast Of (λ s stream. Agrees way.log stream ⊎ Else s stream) after
 past_way Of Else script nodes after way exact fits going =
     let noted =
-    all_noted way.log (record { left = 0; nodes = nodes }) (record { left = way.left; nodes = after }) refl going.known (omega (arith, going.at)) exact fits way.noted
+    all_noted way.log nodes after going.known (omega (arith, going.at)) exact fits way.noted
     in
     record {
       known = noted.known;
@@ -636,7 +640,7 @@ ListsFromEach w first middles count xs =
     (k : ℕ) → (past : Middle) → k < first → (s : State) → Offers w s → ListsFrom w (get_or middles k past) s count xs
 
 -- So where battles for every stream are listed from a position, one is for a stream on which the turn arrives there.
-some_middle : Middle
+pub some_middle : Middle
 some_middle =
     record {
       bytes = [];
@@ -714,14 +718,13 @@ pub finished_every : (s : State) (one two : Choice) (count : ℕ) (xs : List Suc
 finished_every s one two count xs (Ok o) every e = subst (λ (n : ℕ). ListsEvery s one two n xs) (sym e) every
 finished_every s one two count xs (Err fault) every e = tt
 
--- What a walk lists for every stream it lists of the pair that it was made of.
-pub every_walk : (s : State) (one two : Choice) (options : OutcomeOptions) (battle : Parts) (w : Walk) → IsBegun battle one two options w → Stands battle s
-    → AreOffered s one two → IsExact options → (xs : List Successor) (r : Result Outcomes OutcomesFault)
-    → (Offers w s → IsExact w.options → IfOk r (λ o. ListsEvery s w.one w.two o.count xs))
-    → IfOk r (λ o. ListsEvery s one two o.count xs)
-every_walk s one two options battle w is stands offered exact xs r all =
-    subst (λ (a : Choice). AreOffered s a two → IfOk r (λ o. ListsEvery s a two o.count xs)) is.one
-    (subst (λ (b : Choice). AreOffered s w.one b → IfOk r (λ o. ListsEvery s w.one b o.count xs)) is.two
+-- What a walk lists it lists of the pair that it was made of.
+pub of_walk : (Of : Choice → Choice → Outcomes → Type 0) (s : State) (one two : Choice) (options : OutcomeOptions) (battle : Parts) (w : Walk) → IsBegun battle one two options w
+    → Stands battle s → AreOffered s one two → IsExact options → (r : Result Outcomes OutcomesFault) → (Offers w s → IsExact w.options → IfOk r (λ o. Of w.one w.two o))
+    → IfOk r (λ o. Of one two o)
+of_walk Of s one two options battle w is stands offered exact r all =
+    subst (λ (a : Choice). AreOffered s a two → IfOk r (λ o. Of a two o)) is.one
+    (subst (λ (b : Choice). AreOffered s w.one b → IfOk r (λ o. Of w.one b o)) is.two
     (λ o.
     all (record { stands = subst (λ (p : Parts). Stands p s) (sym is.start) stands; offered = o }) (subst (λ (m : OutcomeOptions). IsExact m) (sym is.options) exact))) offered
 

@@ -1,5 +1,8 @@
 -- Lemmas.
 pub mod Complete
+pub mod Fair
+pub mod Fractions
+pub mod Levels
 pub mod Lists
 pub mod Logs
 pub mod Offered
@@ -11,6 +14,10 @@ pub mod Runs
 pub mod Sets
 pub mod Shares
 pub mod Shifts
+pub mod Stages
 pub mod Table
+pub mod Told
 pub mod Walking
 pub mod Walks
+pub mod Weighing
+pub mod Weights

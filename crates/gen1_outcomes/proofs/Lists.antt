@@ -1,5 +1,5 @@
 -- Lists of successors: what is added, what of it follows, and which array is too short for it.
-use Rattle.std.proofs.Common.{◌≡◌, ◌≢◌, ℕ, Err, IfOk, Ok, OnOk, Result, ◌+◌, ◌<◌, ◌≤◌, List, length, get_or-set_other, get_or-set_same, set, ◌⊎◌, inl, inr, ap, subst, sym, ◌∙◌, arith, get_or}
+use Rattle.std.proofs.Common.{◌≡◌, ◌≢◌, ℕ, Err, IfOk, Ok, OnErr, OnOk, Result, ◌+◌, ◌<◌, ◌≤◌, List, length, get_or-set_other, get_or-set_same, set, ◌⊎◌, inl, inr, ap, subst, sym, ◌∙◌, arith, get_or}
 use Rattle.std.proofs.lemmas.List.{get_or_default}
 use Rattle.std.specs.Prelude.{slice_index}
 use Rattle.gen1_machine.specs.declared.choice.Choice.{Choice}
@@ -15,7 +15,7 @@ use Rattle.gen1_outcomes.specs.Following.{IsBegun, Walk}
 use Rattle.gen1_outcomes.specs.Merging.{IsFull}
 use Rattle.gen1_outcomes.specs.declared.middles.Middle.{Middle}
 use Rattle.gen1_outcomes.specs.declared.middles.Middles.{Middles}
-use Rattle.gen1_outcomes.specs.Middles.{Gets, GoOnAlike, Joins}
+use Rattle.gen1_outcomes.specs.Middles.{Gets, GoOnAlike, HasTooMuch, IsTooMuch, Joins}
 use Rattle.gen1_outcomes.specs.Listing.{AreThose, AreThoseOr, EachFollows, FollowsBy, KeepsFirst, StillFollow, battle_at}
 
 pub same_or : (m n : ℕ) → (m ≡ n) ⊎ (m ≢ n)
@@ -164,3 +164,9 @@ joins added mine joined old new place d is same within inside at alike gets =
       others = λ k past ne. ap (λ (l : List Middle). get_or l k past) is ∙ get_or-set_other old.list place k joined past ne;
       length = same;
     }
+
+-- What can't be added to a position of a list.
+pub too_much : (added : Middle) (count : ℕ) (list : List Middle) (place : ℕ) (r : Result (Unit {0}) OutcomesFault) → place < count
+    → ((past : Middle) → OnErr r (IsTooMuch added (get_or list place past))) → OnErr r (HasTooMuch added count list)
+too_much added count list place (Ok done) lt large = tt
+too_much added count list place (Err why) lt large = record { place = place; within = lt; here = large }

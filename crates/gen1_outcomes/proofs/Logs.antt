@@ -1,5 +1,5 @@
 -- Logs with one entry more, and the draws of an explorer.
-use Rattle.std.proofs.Common.{◌≡◌, ◌≢◌, ◌⊎◌, inl, inr, ℕ, ◌+◌, ◌<◌, List, [], ◌∷◌, ◌++◌, Option, None, Some, IfNone, IfSome, IsFalse, IsTrue, ap, append-nil, append_assoc, arith, refl, subst, sym, ◌∙◌}
+use Rattle.std.proofs.Common.{◌≡◌, ◌≢◌, inl, inr, ℕ, ◌+◌, ◌<◌, List, [], ◌∷◌, ◌++◌, Option, None, Some, IfNone, IfSome, IsFalse, IsTrue, ap, append-nil, append_assoc, arith, refl, subst, sym, ◌∙◌}
 use Rattle.std.specs.Borrow.{GName}
 use Rattle.gen1_rolls.specs.declared.look.ByteTest.{ByteTest}
 use Rattle.gen1_rolls.specs.declared.look.Look.{Look}
@@ -28,7 +28,7 @@ use Rattle.gen1_outcomes.specs.declared.script.Script.{Script}
 use Rattle.gen1_outcomes.specs.Following.{Leads, turn_on}
 use Rattle.gen1_outcomes.specs.Logs.{explored}
 use Rattle.gen1_outcomes.specs.Logs.{AllFit, Draws, FindsAlike, Fits, IsLogged, NotesAll, NotesEntry, place_after, place_at, place_past}
-use Rattle.gen1_outcomes.specs.Nodes.{Notes, Noting, PassesBy}
+use Rattle.gen1_outcomes.specs.Nodes.{Notes, Passes}
 use Rattle.gen1_outcomes.specs.Script.{scripted}
 
 pub place_more : (es : List Entry) (e : Entry) (s : Stream) (n : ℕ) → place_at (es ++ e ∷ []) s n ≡ place_after e s (place_at es s n)
@@ -43,11 +43,11 @@ pub fit_before : (es : List Entry) (e : Entry) (s : Stream) (n : ℕ) → AllFit
 fit_before [] e s n all = (tt, all.0)
 fit_before (x ∷ es) e s n all = let rest = fit_before es e s (place_after x s n) all.1 in ((all.0, rest.0), rest.1)
 
-pub notes_more : (es : List Entry) (e : Entry) (old now new : Noting) → NotesAll es old now → NotesEntry e now new → NotesAll (es ++ e ∷ []) old new
-notes_more [] e old now new all step = (new, subst (λ (x : Noting). NotesEntry e x new) all step, refl)
+pub notes_more : (es : List Entry) (e : Entry) (old now new : Nodes) → NotesAll es old now → NotesEntry e now new → NotesAll (es ++ e ∷ []) old new
+notes_more [] e old now new all step = (new, subst (λ (x : Nodes). NotesEntry e x new) all step, refl)
 notes_more (x ∷ es) e old now new all step = (all.0, all.1, notes_more es e all.0 now new all.2 step)
 
-module _ {N : Type 0} (noting : N → Noting) (name : N → GName) where
+module _ {N : Type 0} (noting : N → Nodes) (name : N → GName) where
   -- A draw or a search leads from one explorer to another.
   pub record StepBy (e : Entry) (old new : Explorer N) : Type 0 where
     pub log : new.log.entries ≡ old.log.entries ++ e ∷ []
@@ -208,7 +208,7 @@ module _ {N : Type 0} (noting : N → Noting) (name : N → GName) where
 
   -- What was asked since the beginning: the draws of the script agree with it, and all of it was noted.
   abbrev pub logged_by : (start last : Explorer N) → start.log.entries ≡ [] → IsStream (stream_of scripted start.script) → StepsTo (explored noting name) start last
-      → IsLogged start.script (noting start.notes) (noting last.notes).nodes
+      → IsLogged start.script (noting start.notes) (noting last.notes)
   logged_by start last empty is steps =
       let came = steps.comes start (record { more = []; log = sym (append-nil start.log.entries); notes = refl; same = refl; own = λ origin s draws. draws }) in
       let all : last.log.entries ≡ came.more = came.log ∙ ap (λ (l : List Entry). l ++ came.more) empty in
@@ -216,7 +216,6 @@ module _ {N : Type 0} (noting : N → Noting) (name : N → GName) where
       record {
         log = last.log.entries;
         own = record { is = is; fit = (came.own start.script own (rw empty (record { fit = tt; stands = stands_at_itself scripted start.script }))).fit };
-        left = (noting last.notes).left;
         noted = rw all came.notes;
       }
 
@@ -241,18 +240,12 @@ module _ {N : Type 0} (noting : N → Noting) (name : N → GName) where
         by_step = still;
       }
 
-none_or : (n : ℕ) → (n ≡ 0) ⊎ (n ≢ 0)
-none_or n = grind arith
-
 -- No draw changes how they are noted.
-pass_keeps : (b : ℕ) (asked : Asked) (look : Look) (old new : Noting) → PassesBy b asked look old new → new.nodes.options ≡ old.nodes.options
+pass_keeps : (b : ℕ) (asked : Asked) (look : Look) (old new : Nodes) → Passes b asked look old new → new.options ≡ old.options
 pass_keeps b asked look old new passes =
-    elim (none_or old.left) [
-      | inl none ↦ elim (passes.passed none).past [
-        | inl same ↦ ap (λ (x : Nodes). x.options) same.1
-        | inr other ↦ ap (λ (x : Nodes). x.options) other
-      ]
-      | inr some ↦ ap (λ (x : Nodes). x.options) (passes.counted some).1
+    elim passes.past [
+      | inl same ↦ ap (λ (x : Nodes). x.options) same.1
+      | inr other ↦ ap (λ (x : Nodes). x.options) other
     ]
 
 note_keeps : (b : ℕ) (asked : Asked) (look : Look) (may : ByteSet) (old new : Nodes) → Notes b asked look may old new → new.options ≡ old.options
@@ -260,22 +253,19 @@ note_keeps b asked look may old new (inl adds) = adds.options
 note_keeps b asked look may old new (inr (inl same)) = ap (λ (x : Nodes). x.options) same.0
 note_keeps b asked look may old new (inr (inr marked)) = marked.options
 
-pub entry_keeps : (e : Entry) (old new : Noting) → NotesEntry e old new → new.nodes.options ≡ old.nodes.options
+pub entry_keeps : (e : Entry) (old new : Nodes) → NotesEntry e old new → new.options ≡ old.options
 entry_keeps (Draw look b) old new notes =
     elim notes [
       | inl passes ↦ pass_keeps b Next look old new passes
-      | inr adds ↦ note_keeps b Next look adds.0 old.nodes new.nodes adds.2.noted
+      | inr adds ↦ note_keeps b Next look adds.0 old new adds.2.noted
     ]
 entry_keeps (Found test look b) old new notes =
     elim notes.2 [
       | inl passes ↦ pass_keeps b (First test) look old new passes
-      | inr adds ↦ note_keeps b (First test) look adds.0 old.nodes new.nodes adds.2.noted
+      | inr adds ↦ note_keeps b (First test) look adds.0 old new adds.2.noted
     ]
-entry_keeps (Missed test) old new marks = ap (λ (x : Noting). x.nodes.options) marks
+entry_keeps (Missed test) old new marks = ap (λ (x : Nodes). x.options) marks
 
-pub notes_keep : (es : List Entry) (old new : Noting) → NotesAll es old new → new.nodes.options ≡ old.nodes.options
-notes_keep [] old new same = ap (λ (x : Noting). x.nodes.options) same
+pub notes_keep : (es : List Entry) (old new : Nodes) → NotesAll es old new → new.options ≡ old.options
+notes_keep [] old new same = ap (λ (x : Nodes). x.options) same
 notes_keep (e ∷ es) old new all = notes_keep es all.0 new all.2 ∙ entry_keeps e old all.0 all.1
-
-pub noting_is : (l m : ℕ) (n k : Nodes) → l ≡ m → n ≡ k → ◌≡◌ {A = Noting} (record { left = l; nodes = n }) (record { left = m; nodes = k })
-noting_is l m n k e f = rw (e, f) refl

@@ -19,7 +19,6 @@ use Rattle.gen1_outcomes.specs.declared.nodes.Nodes.{Nodes}
 use Rattle.gen1_outcomes.specs.declared.script.Script.{Script}
 use Rattle.gen1_outcomes.specs.Following.{CanFollow, Leads}
 use Rattle.gen1_outcomes.specs.Logs.{Agrees, IsLogged, NotesAll}
-use Rattle.gen1_outcomes.specs.Nodes.{Noting}
 use Rattle.gen1_outcomes.specs.Script.{scripted}
 
 pub accepted_offered : (s : State) (one two : Choice) (old new : Parts) (result : BattleResult) → Answers s one two old new (Ok result) → AreOffered s one two
@@ -68,22 +67,21 @@ leads_by s a b one two log parts events e f h =
     (subst (λ (y : Choice). AreOffered s a y → Leads s a y log parts events) f h)
 
 -- A way that was played can follow: its script's draws agree with its log.
-pub can_follow : (script : Script) (old : Noting) (new : Nodes) (way : IsLogged script old new) (s : State) (one two : Choice) (parts : Parts) (events : Telling)
+pub can_follow : (script : Script) (old new : Nodes) (way : IsLogged script old new) (s : State) (one two : Choice) (parts : Parts) (events : Telling)
     → Leads s one two way.log parts events → CanFollow s one two parts events
 can_follow script old new way s one two parts events leads =
     record { log = way.log; bytes = draws_of scripted script; agrees = way.own; leads = leads }
 
 -- A way under other names of its script and of what was noted before it and after it.
-abbrev pub way_as : (script script' : Script) (old old' : Noting) (new new' : Nodes) (P : List Entry → Type 0) → script ≡ script' → old ≡ old' → new ≡ new'
+abbrev pub way_as : (script script' : Script) (old old' new new' : Nodes) (P : List Entry → Type 0) → script ≡ script' → old ≡ old' → new ≡ new'
     → (way : IsLogged script old new) × P way.log → (way : IsLogged script' old' new') × P way.log
 way_as script script' old old' new new' P e f h x = (
   record {
     log = x.0.log;
     own = subst (λ (y : Script). Agrees x.0.log (stream_of scripted y)) e x.0.own;
-    left = x.0.left;
     noted =
-        subst (λ (n : Nodes). NotesAll x.0.log old' (record { left = x.0.left; nodes = n })) h
-        (subst (λ (y : Noting). NotesAll x.0.log y (record { left = x.0.left; nodes = new })) f x.0.noted);
+        subst (λ (n : Nodes). NotesAll x.0.log old' n) h
+        (subst (λ (y : Nodes). NotesAll x.0.log y new) f x.0.noted);
   },
   x.1,
 )

@@ -159,7 +159,7 @@ follows_on w middle nodes after parts (inl none) options fits plays s h o =
       path = plays.path;
       is_path = plays.is_path;
       after = nodes;
-      way = record { log = []; own = record { is = plays.way.own.is; fit = tt }; left = 0; noted = refl };
+      way = record { log = []; own = record { is = plays.way.own.is; fit = tt }; noted = refl };
     } in
     let stream = joined_agree [] plays.way.log (stream_of scripted script) (stream_of scripted script) refl refl tt (none_missed plays.way.log _ _ plays.way.noted fits)
     (record { is = plays.way.own.is; fit = tt }) plays.way.own in

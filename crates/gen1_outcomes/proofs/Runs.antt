@@ -129,7 +129,7 @@ begins-from n d q a first some more begins le =
           absurd (omega (arith, past, begins.more (omega (arith, less)), le))
     ]
 
--- What is told apart of a part, with at least one class.
+-- What is distinguished of a part, with at least one class.
 abbrev told_of : ℕ → ℕ → ℕ → ℕ → ℕ
 told_of n d e p = cond (nat_le e p) (n + class_of n d p) (class_of n d p)
 

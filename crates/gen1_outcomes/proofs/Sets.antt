@@ -498,3 +498,14 @@ size_above all below above bound few each under over =
     part : (b : Bool) (n m r : ℕ) → n ≡ 1 → m ≡ cond b 1 0 → r ≡ n - m → m + r ≡ n
     part true n m r e f g = omega (arith, e, f, g)
     part false n m r e f g = omega (arith, e, f, g)
+
+-- The size of a set by those of its words, and a word without one bit, as the code has them.
+pub size_by : (set : ByteSet) (a b c d : ℕ) → a ≡ bits_set (get_or set.words 0 0) → b ≡ bits_set (get_or set.words 1 0) → c ≡ bits_set (get_or set.words 2 0)
+    → d ≡ bits_set (get_or set.words 3 0) → a + b + (c + d) ≡ size set
+size_by set a b c d one two three four = rw (one, two, three, four) (size_of_words set)
+
+pub cleared_here : (word place : ℕ) (c : Bool) → place < 64 → c ≡ false → bit_at (bit_and word (bit_not w64 (1 * 2 ^ place % 18446744073709551616))) place ≡ cond c (bit_at word place) 0
+cleared_here word place c lt e = rw e (bit_at_clear_same w64 word place lt)
+
+pub cleared_others : (word place i : ℕ) → place < 64 → i < 64 → i ≢ place → bit_at (bit_and word (bit_not w64 (1 * 2 ^ place % 18446744073709551616))) i ≡ bit_at word i
+cleared_others word place i lt small ne = bit_at_clear_other w64 word place lt i small ne

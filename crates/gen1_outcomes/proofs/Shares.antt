@@ -81,14 +81,14 @@ is_left c old mid xs ys more keeps is below =
       ways = keeps.ways;
     }
 
-before_less : (t : Tally) (xs : List Successor) (k : ℕ) (past : Successor) → k < t.count → weight_before t xs k past ≡ weight_at xs k past
+pub before_less : (t : Tally) (xs : List Successor) (k : ℕ) (past : Successor) → k < t.count → weight_before t xs k past ≡ weight_at xs k past
 before_less t xs k past lt = by (nat_lt k t.count) refl
   where
     by : (b : Bool) → nat_lt k t.count ≡ b → (if b then weight_at xs k past else 0) ≡ weight_at xs k past
     by true e = refl
     by false e = absurd (grind (arith, e, lt))
 
-before_new : (t : Tally) (xs : List Successor) (past : Successor) → weight_before t xs t.count past ≡ 0
+pub before_new : (t : Tally) (xs : List Successor) (past : Successor) → weight_before t xs t.count past ≡ 0
 before_new t xs past = by (nat_lt t.count t.count) refl
   where
     by : (b : Bool) → nat_lt t.count t.count ≡ b → (if b then weight_at xs t.count past else 0) ≡ 0

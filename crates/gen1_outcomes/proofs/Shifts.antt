@@ -69,10 +69,10 @@ unfolding first
 first-dropped s n m test = first_within-dropped (span s) s n m test
 
 -- Progress on the rest of a stream, as progress on the whole.
-abbrev on_whole : Stream → ℕ → Progress → Progress
+abbrev pub on_whole : Stream → ℕ → Progress → Progress
 on_whole s n q = drawing_from s (n + q.drawn) q
 
-tree-dropped : (t : Tree) (s : Stream) (n m : ℕ) → leads_to t s (n + m) ≡ on_whole s n (leads_to t (dropped n s) m)
+pub tree-dropped : (t : Tree) (s : Stream) (n m : ℕ) → leads_to t s (n + m) ≡ on_whole s n (leads_to t (dropped n s) m)
 unfolding leads_to
 tree-dropped (Done left) s n m = refl
 tree-dropped (DrawNext next) s n m =
@@ -102,10 +102,10 @@ phase-dropped : {f : Phase} → HasTree f → (p : Progress) (s : Stream) (n m :
 phase-dropped {f} k p s n m = k.leads p s (n + m) ∙ tree-dropped (k.tree p) s n m ∙ ap (on_whole s n) (sym (k.leads p (dropped n s) m))
 
 -- A battle that draws from the beginning of what is left of its stream.
-abbrev restarted : Progress → Progress
+abbrev pub restarted : Progress → Progress
 restarted p = drawing_from (dropped p.drawn p.stream) 0 p
 
-phase-restarted : {f : Phase} → HasTree f → (p : Progress) → f p ≡ on_whole p.stream p.drawn (f (restarted p))
+pub phase-restarted : {f : Phase} → HasTree f → (p : Progress) → f p ≡ on_whole p.stream p.drawn (f (restarted p))
 phase-restarted {f} k p =
     let here : p.drawn ≡ p.drawn + 0 = omega arith in
     ap (λ (n : ℕ). f (drawing_from p.stream n p)) here ∙ phase-dropped k p p.stream p.drawn 0
@@ -341,7 +341,7 @@ joined_agree xs ys s w long wide none never one later =
 -- Turns of two actions.
 
 -- Both sides are asked for a move, and use one.
-record UsesMoves (one two : Choice) (f : Field) : Type 0 where
+pub record UsesMoves (one two : Choice) (f : Field) : Type 0 where
   pub asked : f.request_one ≡ requests.Move
   pub first : ℕ
   pub uses_one : one ≡ choices.Move first
@@ -364,7 +364,7 @@ all_true true true false is = absurd (cc)
 all_true true false c is = absurd (cc)
 all_true false b c is = absurd (cc)
 
-uses_moves : (one two : Choice) (f : Field) → have_two_actions one two f ≡ true → UsesMoves one two f
+pub uses_moves : (one two : Choice) (f : Field) → have_two_actions one two f ≡ true → UsesMoves one two f
 uses_moves one two f is =
     let all = all_true (asks_for_move f.request_one) (is_move one) (is_move two) is in
     let mine = some_move one all.1 in
@@ -380,7 +380,7 @@ arrives_by w nodes after middle reaches s of stream agrees =
     record { rest = reaches.rest; kept = reaches.kept; here = b.here; at = record { within = b.within; ready = b.ready }; on = b.on; rests = b.rests }
 
 -- It does where the log ends.
-arrives_there : (w : Walk) (nodes after : Nodes) (middle : Middle) (reaches : Reaches w nodes after middle) (s : State) (of : OffersTwo w s)
+pub arrives_there : (w : Walk) (nodes after : Nodes) (middle : Middle) (reaches : Reaches w nodes after middle) (s : State) (of : OffersTwo w s)
     → (stream : Stream) (agrees : Agrees reaches.way.log stream) → place_at reaches.way.log stream 0 ≡ (arrives_by w nodes after middle reaches s of stream agrees).here.drawn
 unfolding arrives_by
 arrives_there w nodes after middle reaches s of stream agrees =
@@ -394,7 +394,7 @@ follows_from s one two bytes None log parts leads stream agrees = leads stream a
 follows_from s one two bytes (Some rest) log parts leads stream agrees = leads stream agrees
 
 -- The rest of an update has a tree, so it leads to the same from the beginning of what is left of the stream.
-rest-tree : (rest : Rest) (terms : Terms) → HasTree (rest_of rest (ruling_of terms))
+pub rest-tree : (rest : Rest) (terms : Terms) → HasTree (rest_of rest (ruling_of terms))
 rest-tree rest terms = by rest.is_cut
   where
     by : (b : Bool) → HasTree (λ p. if b then p else close_update (ruling_of terms) (second_action (ruling_of terms) rest.second rest.pick p))

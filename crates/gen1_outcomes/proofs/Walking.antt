@@ -22,9 +22,9 @@ use Rattle.gen1_outcomes.specs.Nodes.{AllDone, AreBytes, AreLeft, AreOn, AreToCo
 use Rattle.gen1_outcomes.specs.Plain.{ArePlain, EndsWith, GoesOnTo}
 
 pub leads_on : (old new : Nodes) (list : List Node) (len : ℕ) (node : Node) → new.list ≡ set list (len - 1) node → new.len ≡ len → new.at ≡ 0 → new.asked ≡ old.asked → new.options ≡ old.options
-    → list ≡ old.list → len ≤ old.len → 0 < len → len ≤ length list → ((none : Node) → GoesOn (get_or list (len - 1) none) node)
+    → new.before ≡ old.before → list ≡ old.list → len ≤ old.len → 0 < len → len ≤ length list → ((none : Node) → GoesOn (get_or list (len - 1) none) node)
     → ((k : ℕ) (none : Node) → len ≤ k → k < old.len → IsDone (get_or old.list k none)) → LeadsOn old new
-leads_on old new list len node is same_len first asked options same shorter some within goes done =
+leads_on old new list len node is same_len first asked options since same shorter some within goes done =
     let inside : len - 1 < length list = omega arith in
     record {
       place = len - 1;
@@ -33,6 +33,7 @@ leads_on old new list len node is same_len first asked options same shorter some
       at = first;
       asked = asked;
       options = options;
+      since = since;
       before = λ k none lt.
           let ne : k ≢ len - 1 = omega (arith, lt) in
           ap (λ (l : List Node). get_or l k none) is ∙ get_or-set_other list (len - 1) k node none ne ∙ ap (λ (l : List Node). get_or l k none) same;
@@ -97,6 +98,16 @@ shares_twos a b some first second =
     some_part : (x p n : ℕ) → 0 < n → x * p ≡ n → 0 < x
     some_part zero p n some is = absurd (omega (arith, some, is))
     some_part (suc x) p n some is = omega arith
+
+-- One by one, as the code needs them.
+pub part_positive : (a b : ℕ) → 0 < b → a < 65536 → b < 65536 → 0 < b / 2 ^ trailing_zeros w16 (bit_or a b)
+part_positive a b some first second = (shares_twos a b some first second).positive
+
+pub part_exact : (a b : ℕ) → 0 < b → a < 65536 → b < 65536 → a / 2 ^ trailing_zeros w16 (bit_or a b) * b ≡ b / 2 ^ trailing_zeros w16 (bit_or a b) * a
+part_exact a b some first second = (shares_twos a b some first second).exact
+
+pub part_few : (a b : ℕ) → 0 < b → a < 65536 → b < 65536 → trailing_zeros w16 (bit_or a b) < 16
+part_few a b some first second = (shares_twos a b some first second).few
 
 -- Products of two fractions.
 pub crossed : (a b c d : ℕ) → a * b * (c * d) ≡ a * c * (b * d)

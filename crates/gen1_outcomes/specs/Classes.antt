@@ -18,12 +18,12 @@ class_of n damage part = (least_factor damage part - 217) * n / 39
 abbrev pub last_factor : ℕ → ℕ → ℕ
 last_factor n class = 216 + (39 * (class + 1) + (n - 1)) / n
 
--- What is told apart of a damage of which the part is seen: without classes the part, and else its class. From the edge on
+-- What is distinguished of a damage of which the part is seen: without classes the part, and else its class. From the edge on
 -- the classes are numbered after those below it, so none has damage from both sides.
 abbrev pub part_told : ℕ → ℕ → ℕ → ℕ → ℕ
 part_told n damage edge part = if n == 0 then part else (if nat_le edge part then n + class_of n damage part else class_of n damage part)
 
--- What is told apart of a byte: all that the look sees, and of a damage its class.
+-- What is distinguished of a byte: all that the look sees, and of a damage its class.
 abbrev pub told : ℕ → Look → ℕ → ℕ
 told n (Below bound) b = sees (Below bound) b
 told n (RotatedBelow bound) b = sees (RotatedBelow bound) b
@@ -34,7 +34,7 @@ told n (Factor damage edge cut) b = part_told n damage edge (sees (Factor damage
 abbrev pub middle_factor : ℕ → ℕ
 middle_factor n = if n == 0 then 255 else 255 - 39 / n / 2
 
--- Two bytes are alike in n classes of damage if the same is told of both. In 0 classes they are alike under the look.
+-- Two bytes are alike in n classes of damage if what is distinguished of them is equal. In 0 classes they are alike under the look.
 abbrev pub alike_in : ℕ → Look → ℕ → ℕ → Bool
 alike_in n look x y = told n look x == told n look y
 
@@ -42,7 +42,7 @@ alike_in n look x y = told n look x == told n look y
 abbrev pub damage_by : ℕ → ℕ → ℕ
 damage_by damage b = damage * rotated_right_1 b / 255
 
--- No class has damage from both sides of the edge: of two bytes of which the same is told, both reach it or neither.
+-- No class has damage from both sides of the edge: of two bytes that are alike, both reach it or neither.
 abbrev pub KeepsEdgeApart : ℕ → Look → Type 0
 KeepsEdgeApart n look =
     (damage : ℕ) → (edge : ℕ) → (cut : Bool) → look ≡ Factor damage edge cut → edge ≤ 65535 → (x : ℕ) → (y : ℕ) → x < 256 → y < 256

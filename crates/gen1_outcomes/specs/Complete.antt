@@ -112,7 +112,7 @@ pub record Extends (before : ℕ) (old : List Successor) (count : ℕ) (new : Li
   pub more : before ≤ count
   pub first : KeepsFirst before old new
 
--- Each damage is told apart, and nothing is left out.
+-- Each damage is distinguished, and nothing is left out.
 pub record IsExact (options : OutcomeOptions) : Type 0 where
   pub classes : options.damage_classes ≡ 0
   pub least : options.least ≡ 0

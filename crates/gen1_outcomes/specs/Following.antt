@@ -89,7 +89,7 @@ pub record CanFollow (s : State) (one two : Choice) (parts : Parts) (events : Te
 pub record PlaysWay (w : Walk) (nodes : Nodes) (parts : Parts) (events : Telling) : Type 0 where
   pub path : List ℕ
   pub is_path : IsPathOf w.nodes path
-  pub way : IsLogged (script_of path) (record { left = 0; nodes = w.nodes }) nodes
+  pub way : IsLogged (script_of path) w.nodes nodes
   pub leads : (s : State) → Stands w.start s → AreOffered s w.one w.two → Leads s w.one w.two way.log parts events
 
 -- A walk plays a way of this probability; or all were played, and nothing happens.

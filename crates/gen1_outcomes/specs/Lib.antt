@@ -12,5 +12,6 @@ pub mod Middles
 pub mod Complete
 pub mod Merging
 pub mod Shares
+pub mod Weights
 pub mod Plain
 pub mod Faults

@@ -39,7 +39,7 @@ pub record IsPart (form : OutcomeOptions) : Type 0 where
   pub path : List ℕ
   pub is_path : IsPathOf nodes path
   pub after : Nodes
-  pub way : IsLogged (script_of path) (record { left = 0; nodes = nodes }) after
+  pub way : IsLogged (script_of path) nodes after
 
 -- A battle follows on each stream that agrees with the log of a first part of an update and then with that of a second one, and a stream does: of
 -- bytes, of which any 560 in a row hold every one. Nothing is drawn in the first part of an update that is played in one.

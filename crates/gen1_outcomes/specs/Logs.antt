@@ -15,7 +15,7 @@ use Rattle.gen1_outcomes.specs.declared.nodes.Asked.TheVariants.{First, Next}
 use Rattle.gen1_outcomes.specs.declared.nodes.Nodes.{Nodes}
 use Rattle.gen1_outcomes.specs.declared.script.Script.{Script}
 use Rattle.gen1_outcomes.specs.Bytes.{ArePassing, IsAll, IsNone}
-use Rattle.gen1_outcomes.specs.Nodes.{IsSettled, Marks, NotesNew, Noting, PassesBy}
+use Rattle.gen1_outcomes.specs.Nodes.{IsSettled, Marks, NotesNew, Passes}
 use Rattle.gen1_outcomes.specs.Script.{scripted}
 
 -- The place after what a search from n on finds.
@@ -29,7 +29,7 @@ place_after (Draw look b) s n = n + 1
 place_after (Found test look b) s n = place_past (first s n (passes test)) n
 place_after (Missed test) s n = n + span s
 
--- The same after all of a log.
+-- The place of a stream after all of a log.
 abbrev pub place_at : List Entry → Stream → ℕ → ℕ
 place_at [] s n = n
 place_at (e ∷ es) s n = place_at es s (place_after e s n)
@@ -58,24 +58,23 @@ pub record Agrees (log : List Entry) (s : Stream) : Type 0 where
 
 -- What a draw or a search changes in the notes. A draw may have any byte, and a search those that pass, or what it may have does not matter.
 -- A way whose search finds nothing is marked.
-abbrev pub NotesEntry : Entry → Noting → Noting → Type 0
-NotesEntry (Draw look b) old new = PassesBy b Next look old new ⊎ ((may : ByteSet) × IsAll may × NotesNew b Next look may old new)
+abbrev pub NotesEntry : Entry → Nodes → Nodes → Type 0
+NotesEntry (Draw look b) old new = Passes b Next look old new ⊎ ((may : ByteSet) × IsAll may × NotesNew b Next look may old new)
 NotesEntry (Found test look b) old new =
     (b < 256) × IsTrue (passes test b)
-    × (PassesBy b (First test) look old new ⊎ ((may : ByteSet) × (ArePassing (passes test) may ⊎ (IsSettled old × IsNone may)) × NotesNew b (First test) look may old new))
+    × (Passes b (First test) look old new ⊎ ((may : ByteSet) × (ArePassing (passes test) may ⊎ (IsSettled old × IsNone may)) × NotesNew b (First test) look may old new))
 NotesEntry (Missed test) old new = Marks old new
 
 -- What all of a log change in them, one after the other.
-abbrev pub NotesAll : List Entry → Noting → Noting → Type 0
+abbrev pub NotesAll : List Entry → Nodes → Nodes → Type 0
 NotesAll [] old new = new ≡ old
-NotesAll (e ∷ es) old new = (now : Noting) × NotesEntry e old now × NotesAll es now new
+NotesAll (e ∷ es) old new = (now : Nodes) × NotesEntry e old now × NotesAll es now new
 
 -- A way was played with the draws of a script: they agree with its log, all of which was noted.
-pub record IsLogged (script : Script) (old : Noting) (new : Nodes) : Type 0 where
+pub record IsLogged (script : Script) (old new : Nodes) : Type 0 where
   pub log : List Entry
   pub own : Agrees log (stream_of scripted script)
-  pub left : ℕ
-  pub noted : NotesAll log old (record { left = left; nodes = new })
+  pub noted : NotesAll log old new
 
 -- A script draws a stream, which agrees with the log of its draws.
 pub record Draws (origin : Script) (s : Stream) (log : List Entry) (script : Script) : Type 0 where
@@ -92,7 +91,7 @@ logged = record {
 
 -- Draws led from one explorer to another: those that its log has more were noted, in the same place, and if its script draws a stream, it
 -- still does.
-pub record Came {N : Type 0} (noting : N → Noting) (name : N → GName) (before now : Explorer N) : Type 0 where
+pub record Came {N : Type 0} (noting : N → Nodes) (name : N → GName) (before now : Explorer N) : Type 0 where
   pub more : List Entry
   pub log : now.log.entries ≡ before.log.entries ++ more
   pub notes : NotesAll more (noting before.notes) (noting now.notes)
@@ -100,7 +99,7 @@ pub record Came {N : Type 0} (noting : N → Noting) (name : N → GName) (befor
   pub own : (origin : Script) (s : Stream) → Draws origin s before.log.entries before.script → Draws origin s now.log.entries now.script
 
 -- What an explorer promises of its draws: they are those of each stream that agrees with its log.
-abbrev pub explored : {N : Type 0} → (N → Noting) → (N → GName) → Drawing (Explorer N)
+abbrev pub explored : {N : Type 0} → (N → Nodes) → (N → GName) → Drawing (Explorer N)
 explored noting name = record {
   stands = λ origin s n now. place_at now.log.entries s 0 ≡ n;
   agrees = λ origin s now. Agrees now.log.entries s;

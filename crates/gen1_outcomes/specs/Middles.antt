@@ -1,5 +1,5 @@
 -- Positions between the two actions of a turn, when they agree, how a way reaches one, and what it leads to (docs/MECHANICS.md, "Order of a turn", "Link numbers").
-use Rattle.std.specs.Prelude.{List, None, Option, Some, [], false, slice_index_or, true, ℕ, ◌+◌, ◌<◌, ◌≡◌, ◌≢◌, ◌⊎◌}
+use Rattle.std.specs.Prelude.{List, None, Option, Some, [], false, slice_index_or, true, ℕ, ◌+◌, ◌^◌, ◌<◌, ◌≡◌, ◌≢◌, ◌≤◌, ◌⊎◌}
 use Rattle.gen1_rolls.specs.Streams.{Stream}
 use Rattle.gen1_machine.specs.declared.choice.Choice.{Choice}
 use Rattle.gen1_machine.specs.declared.choice.Choice.TheVariants as choices
@@ -25,12 +25,18 @@ use Rattle.gen1_outcomes.specs.Logs.{Agrees, IsLogged, logged}
 use Rattle.gen1_outcomes.specs.Script.{script_of}
 use Rattle.gen1_outcomes.specs.declared.middles.Middle.{Middle}
 use Rattle.gen1_outcomes.specs.declared.middles.Middles.{Middles}
-use Rattle.gen1_outcomes.specs.Chances.{IsSum}
+use Rattle.gen1_outcomes.specs.Chances.{IsSum, IsTooFine}
 
 -- Two positions agree: their battles have the same bytes, and the rest of the update is the same.
 pub record GoOnAlike (one other : Middle) : Type 0 where
   pub bytes : one.bytes ≡ other.bytes
   pub rest : one.rest ≡ other.rest
+
+-- None of the first positions of a list agrees with another one, which has a rest and the number of its bytes.
+abbrev pub HasNone : Middle → ℕ → List Middle → Type 0
+HasNone middle count list =
+    (k : ℕ) → (past : Middle) → k < count → GoOnAlike (slice_index_or list k past) middle
+    → ((slice_index_or list k past).hash ≢ middle.hash) ⊎ ((slice_index_or list k past).rest ≡ None)
 
 -- A position gets the ways of another.
 pub record Gets (added old new : Middle) : Type 0 where
@@ -39,6 +45,16 @@ pub record Gets (added old new : Middle) : Type 0 where
   pub draws : new.draws ≡ old.draws
   pub chance : IsSum old.chance added.chance new.chance
   pub ways : new.ways ≡ old.ways + added.ways
+
+-- 128 bits do not hold the sum of their probabilities, or 32 bits that of their ways.
+abbrev pub IsTooMuch : Middle → Middle → Type 0
+IsTooMuch added old = IsTooFine old.chance added.chance ⊎ (2 ^ 32 ≤ old.ways + added.ways)
+
+-- That is so of one of the first positions of a list.
+pub record HasTooMuch (added : Middle) (count : ℕ) (list : List Middle) : Type 0 where
+  pub place : ℕ
+  pub within : place < count
+  pub here : (past : Middle) → IsTooMuch added (slice_index_or list place past)
 
 -- A position of a list gets the ways of another that agrees with it. The rest of the list stays as it was.
 pub record Joins (added : Middle) (old new : Middles) : Type 0 where
@@ -93,7 +109,7 @@ LeadsFrom s one two bytes (Some rest) log parts = EndsAt s bytes rest log parts
 pub record PlaysOn (w : Walk) (middle : Middle) (nodes after : Nodes) (parts : Parts) : Type 0 where
   pub path : List ℕ
   pub is_path : IsPathOf nodes path
-  pub way : IsLogged (script_of path) (record { left = 0; nodes = nodes }) after
+  pub way : IsLogged (script_of path) nodes after
   pub leads : (s : State) → Stands w.start s → AreOffered s w.one w.two → LeadsFrom s w.one w.two middle.bytes middle.rest way.log parts
 
 -- A position is where a walk's turn of two moves is before its second action, on each stream that agrees with the log of a way with a path for
@@ -103,7 +119,7 @@ pub record Reaches (w : Walk) (nodes after : Nodes) (middle : Middle) : Type 0 w
   pub is_path : IsPathOf nodes path
   pub rest : Rest
   pub kept : middle.rest ≡ Some rest
-  pub way : IsLogged (script_of path) (record { left = 0; nodes = nodes }) after
+  pub way : IsLogged (script_of path) nodes after
   pub begins : (s : State) → (j k : ℕ) → Stands w.start s → Plays s Move w.one w.two → w.one ≡ choices.Move j → w.two ≡ choices.Move k
       → (stream : Stream) → Agrees way.log stream
       → let p = drawing_on stream 0 s in

@@ -30,6 +30,7 @@ pub record Takes (taken : ℕ) (old new : Node) : Type 0 where
 
 -- A draw goes on to a byte of its rest.
 pub record GoesOn (old new : Node) : Type 0 where
+  pub small : new.byte < 256
   pub remained : has old.rest new.byte ≡ 1
   pub takes : Takes new.byte old new
 
@@ -73,6 +74,7 @@ pub record LeadsOn (old new : Nodes) : Type 0 where
   pub at : new.at ≡ 0
   pub asked : new.asked ≡ old.asked
   pub options : new.options ≡ old.options
+  pub since : new.before ≡ old.before
   pub before : (k : ℕ) → (none : Node) → k < place → slice_index_or new.list k none ≡ slice_index_or old.list k none
   pub here : (none : Node) → GoesOn (slice_index_or old.list place none) (slice_index_or new.list place none)
   pub after : (k : ℕ) → (none : Node) → place < k → k < old.len → IsDone (slice_index_or old.list k none)
@@ -116,9 +118,10 @@ pub record Covers (may : ByteSet) (old new : Nodes) : Type 0 where
   pub left : (bytes : ℕ → ℕ) → AreBytes bytes → AreLeft old bytes → AreLeft new bytes
   pub on : (bytes : ℕ → ℕ) → AreBytes bytes → AreOn old old.len bytes → has may (bytes old.len) ≡ 1 → AreToCome new bytes
 
--- A draw is added after the others: its byte, which byte it asks for, how many it may have and how many of them are in its class, and the
--- probability of those before it. It loses no bytes.
+-- A draw is added after the others: its byte, which byte it asks for, how many it may have, how many of them are in its class and which are
+-- left, and the probability of those before it. It loses no bytes.
 pub record Adds (drawn : ℕ) (question : Asked) (seen : Look) (may : ByteSet) (old new : Nodes) : Type 0 where
+  pub long : new.len ≤ length new.list
   pub length : new.len ≡ old.len + 1
   pub at : new.at ≡ new.len
   pub asks : asked_at new old.len ≡ question
@@ -132,6 +135,8 @@ pub record Adds (drawn : ℕ) (question : Asked) (seen : Look) (may : ByteSet) (
   pub above : (past : Node) → IsChance old (slice_index_or new.list old.len past).above
   pub fits : new.too_large ≡ old.too_large
   pub since : new.before ≡ old.before
+  pub rest : (past : Node) → (x : ℕ) → x < 256 → has (slice_index_or new.list old.len past).rest x ≡ (if alike_in old.options.damage_classes seen drawn x then 0 else has may x)
+  pub both : (past : Node) → (slice_index_or new.list old.len past).count + size (slice_index_or new.list old.len past).rest ≡ size may
   pub weight : (class : ByteSet) → IsClass old.options.damage_classes seen drawn may class → (past : Node) → (slice_index_or new.list old.len past).count ≡ size class
   pub covers : Covers may old new
 
@@ -166,18 +171,12 @@ pub record IsMarked (old new : Nodes) : Type 0 where
 abbrev pub Notes : ℕ → Asked → Look → ByteSet → Nodes → Nodes → Type 0
 Notes drawn asked seen may old new = Adds drawn asked seen may old new ⊎ ((new ≡ old) × IsLeftOut old) ⊎ IsMarked old new
 
--- Where draws are noted: how many of a first part of the update are still to come, and the draws after it.
-pub record Noting : Type 0 where
-  pub left : ℕ
-  pub nodes : Nodes
+-- The next draw is after those of the way, and is to be noted; or it is one of them, or its branch is left out.
+abbrev pub IsFresh : Nodes → Type 0
+IsFresh nodes = nodes.len ≤ nodes.at
 
--- The next draw is after those of the way, and is to be noted; or it is one of them or of the first part, or its branch is left out.
-pub record IsFresh (noting : Noting) : Type 0 where
-  pub first : noting.left ≡ 0
-  pub after : noting.nodes.len ≤ noting.nodes.at
-
-abbrev pub IsSettled : Noting → Type 0
-IsSettled noting = (noting.left ≢ 0) ⊎ (noting.nodes.at < noting.nodes.len) ⊎ IsLeftOut noting.nodes
+abbrev pub IsSettled : Nodes → Type 0
+IsSettled nodes = (nodes.at < nodes.len) ⊎ IsLeftOut nodes
 
 -- The next draw of a way has this byte. An earlier way asked the same of it, as far as that is known.
 abbrev pub HasAsked : ℕ → Asked → Look → Nodes → Type 0
@@ -190,18 +189,11 @@ pub record Passes (drawn : ℕ) (asked : Asked) (seen : Look) (old new : Nodes) 
   pub within : old.at < old.len
   pub past : (HasAsked drawn asked seen old × (new ≡ record old { at = old.at + 1 })) ⊎ (new ≡ record old { at = old.at + 1; too_large = true })
 
--- A draw of the first part is counted, and one of the way is passed.
-pub record PassesBy (drawn : ℕ) (asked : Asked) (seen : Look) (old new : Noting) : Type 0 where
-  pub counted : old.left ≢ 0 → (new.left + 1 ≡ old.left) × (new.nodes ≡ old.nodes)
-  pub still : old.left ≡ 0 → new.left ≡ 0
-  pub passed : old.left ≡ 0 → Passes drawn asked seen old.nodes new.nodes
-
 -- A draw that no way had before is noted.
-pub record NotesNew (drawn : ℕ) (asked : Asked) (seen : Look) (may : ByteSet) (old new : Noting) : Type 0 where
+pub record NotesNew (drawn : ℕ) (asked : Asked) (seen : Look) (may : ByteSet) (old new : Nodes) : Type 0 where
   pub fresh : IsFresh old
-  pub still : new.left ≡ 0
-  pub noted : Notes drawn asked seen may old.nodes new.nodes
+  pub noted : Notes drawn asked seen may old new
 
 -- The way is marked as too large.
-abbrev pub Marks : Noting → Noting → Type 0
-Marks old new = new ≡ record old { nodes = record old.nodes { too_large = true } }
+abbrev pub Marks : Nodes → Nodes → Type 0
+Marks old new = new ≡ record old { too_large = true }

@@ -124,7 +124,7 @@ pub record PlaysPlain (c : Chance) (old new : PlainWalk) (parts : Parts) (events
   pub nodes : Nodes
   pub chance : IsChance nodes c
   pub next : GoesOnTo nodes new ⊎ EndsWith nodes new
-  pub way : IsLogged (script_of path) (record { left = 0; nodes = before }) nodes
+  pub way : IsLogged (script_of path) before nodes
   pub leads : (s : State) → Stands old.battle s → (pair : Choice × Choice) → choices_at (old.one, old.two) ≡ Some pair → AreOffered s pair.0 pair.1
       → Leads s pair.0 pair.1 way.log parts events
 

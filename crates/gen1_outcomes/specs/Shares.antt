@@ -73,7 +73,7 @@ pub record AreProbable (t : Tally) (xs : List Successor) : Type 0 where
 abbrev pub StayProbable : Tally → List Successor → Tally → List Successor → Type 0
 StayProbable old xs new ys = AreProbable old xs → AreProbable new ys
 
--- The same of the result.
+-- Each outcome of the result is at least as probable as the least probability.
 abbrev pub EachIsProbable : ℕ → Outcomes → List Successor → Type 0
 EachIsProbable least o xs = (k : ℕ) → (past : Successor) → k < o.count → least * o.whole ≤ weight_at xs k past * 4294967296
 

@@ -136,7 +136,7 @@ fn every_second(remainder: u8) -> u64
     0x5555_5555_5555_5555 << remainder
 }
 
-// The same by 4.
+// The bits of a word whose places leave this remainder when they are divided by 4.
 #[tactic(auto, using(crate::proofs::Repeated::fourth))]
 fn every_fourth(remainder: u8) -> u64
     requires { remainder < 4 }
@@ -145,7 +145,7 @@ fn every_fourth(remainder: u8) -> u64
     0x1111_1111_1111_1111 << remainder
 }
 
-// The same by 8.
+// The bits of a word whose places leave this remainder when they are divided by 8.
 #[tactic(auto, using(crate::proofs::Repeated::eighth))]
 fn every_eighth(remainder: u8) -> u64
     requires { remainder < 8 }
@@ -171,6 +171,7 @@ fn alike_in_word(damage_classes: u8, look: Look, byte: u8, base: u8, word: u64) 
 }
 
 // The word, with this bit of it only on a condition.
+#[tactic(auto, using(crate::proofs::Sets::cleared_here, crate::proofs::Sets::cleared_others))]
 fn kept_if(word: u64, place: u32, condition: bool) -> u64
     requires { place < 64 }
     ensures here { bit_at result place ≡ (if condition then bit_at word place else 0) }

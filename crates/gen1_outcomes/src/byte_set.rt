@@ -172,6 +172,7 @@ impl ByteSet {
     }
 
     /// The least byte of the set.
+    #[tactic(auto, using(crate::proofs::Sets::first_has, crate::proofs::Sets::first_least))]
     pub fn first(&self) -> Option<u8>
         ensures none { IfNone result ((b : ℕ) → b < 256 → has self.now b ≡ 0) }
         ensures some { IfSome result (λ first. has self.now first ≡ 1) }
@@ -187,6 +188,7 @@ impl ByteSet {
     }
 
     /// How many bytes the set has.
+    #[tactic(auto, using(crate::proofs::Sets::size_by))]
     pub fn count(&self) -> u16
         ensures { result ≡ size self.now }
     {

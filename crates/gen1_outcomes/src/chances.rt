@@ -1,13 +1,14 @@
 //! Sums of probabilities, and which are below the least one (docs/MECHANICS.md, "Link numbers").
-ghost use Rattle.std.specs.Prelude.{IfSome, IsFalse, IsTrue};
-ghost use Rattle.gen1_outcomes.specs.Chances.{IsAtLeast, IsBelow, IsSum};
+ghost use Rattle.std.specs.Prelude.{IfNone, IfSome, IsFalse, IsTrue};
+ghost use Rattle.gen1_outcomes.specs.Chances.{IsAtLeast, IsBelow, IsSum, IsTooFine};
 
 use crate::merging::common_divisor;
 use crate::nodes::Chance;
 
 /// The probability that one or the other happens, of two that exclude each other. `None` if 128 bits do not hold it.
 pub fn plus(one: Chance, other: Chance) -> Option<Chance>
-    ensures { IfSome result (λ c. IsSum one other c) }
+    ensures sum { IfSome result (λ c. IsSum one other c) }
+    ensures none { IfNone result (IsTooFine one other) }
 {
     let divisor = common_divisor(one.whole, other.whole);
     let more = other.whole / divisor;

@@ -4,7 +4,7 @@ ghost use Rattle.gen1_outcomes.specs.Classes.{KeepsEdgeApart, class_of, least_fa
 
 use gen1_rolls::Look;
 
-/// What of the byte is told apart, as a number: what the look sees, or with classes of damage the class of the damage.
+/// What is distinguished of the byte, as a number: what the look sees, or with classes of damage the class of the damage.
 ///
 /// There are as many classes as the first number says, or with 0 as many as there are damages. Damage below the edge and
 /// damage from it on are in different classes, so the weight of each class counts only one of them.
@@ -19,7 +19,7 @@ pub fn told(damage_classes: u8, look: Look, byte: u8) -> u32
     }
 }
 
-// What is told apart of a part of the damage. From the edge on the classes are numbered after those below it.
+// What is distinguished of a part of the damage. From the edge on the classes are numbered after those below it.
 fn part_told(damage_classes: u8, damage: u16, edge: u16, part: u16) -> u32
     ensures { result ≡ part_told damage_classes damage edge part }
 {

@@ -4,7 +4,7 @@ ghost use Rattle.gen1_outcomes.specs.Script.{script_of, scripted};
 ghost use Rattle.gen1_outcomes.specs.Bytes.{ArePassing, IsNone};
 ghost use Rattle.gen1_outcomes.specs.declared.log.Entry.TheVariants as entries;
 ghost use Rattle.gen1_outcomes.specs.Logs.{NotesEntry};
-ghost use Rattle.gen1_outcomes.specs.Nodes.{IsFresh, IsSettled, Marks, NotesNew, PassesBy};
+ghost use Rattle.gen1_outcomes.specs.Nodes.{IsFresh, IsSettled, Marks, NotesNew, Passes};
 ghost use Rattle.gen1_rolls.specs.Draws.{DrawsByte, FindsAs, FindsNone};
 ghost use Rattle.gen1_rolls.specs.Looks.{passes};
 ghost use Rattle.gen1_rolls.specs.Steady.{steady, stream_of};
@@ -16,13 +16,13 @@ use crate::nodes::{Asked, Nodes};
 use crate::script::{DEPTH, Script};
 use gen1_rolls::{ByteTest, Look, Rolls};
 
-/// What draws are noted in. Nothing but [`After`] is; a type parameter lets the explorer hold a reference.
+/// What draws are noted in. Nothing but [`Noted`] is; a type parameter lets the explorer hold a reference.
 pub(crate) trait Notes {
     ghost use Rattle.std.specs.Borrow.{GName};
-    ghost use Rattle.gen1_outcomes.specs.Nodes.{Noting};
+    ghost use Rattle.gen1_outcomes.specs.declared.nodes.Nodes.{Nodes};
 
     // What is noted so far, and the reference to it.
-    ghost noting: { Self → Noting };
+    ghost noting: { Self → Nodes };
 
     ghost name: { Self → GName };
 
@@ -31,9 +31,9 @@ pub(crate) trait Notes {
         ensures new { IsTrue result → IsFresh (noting self.now) }
         ensures other { IsFalse result → IsSettled (noting self.now) };
 
-    /// Goes past the next draw, if it is one of the first part or of this way.
+    /// Goes past the next draw, if it is one of this way.
     fn pass(&mut self, byte: u8, asked: Asked, look: Look) -> bool
-        ensures passed { IsTrue result → PassesBy byte asked look (noting self.old) (noting self.new) }
+        ensures passed { IsTrue result → Passes byte asked look (noting self.old) (noting self.new) }
         ensures new { IsFalse result → IsFresh (noting self.old) }
         ensures kept { IsFalse result → noting self.new ≡ noting self.old }
         ensures same_reference { name self.new ≡ name self.old };
@@ -50,42 +50,34 @@ pub(crate) trait Notes {
         ensures same_reference { name self.new ≡ name self.old };
 }
 
-/// Nodes for the draws after a first part of the update, which may have no draw. The draws of the first part are not noted.
+/// Nodes that draws are noted in. They are borrowed, so that an update moves a reference to them.
 #[derive(Drop)]
-pub(crate) struct After<'a> {
-    /// How many draws of the first part are still to come.
-    pub(crate) left: usize,
-    /// The draws after it. They are borrowed, so that an update moves a reference to them.
-    pub(crate) nodes: &'a mut Nodes,
+pub(crate) struct Noted<'a> {
+    nodes: &'a mut Nodes,
 }
 
-impl<'a> After<'a> {
-    /// Nodes for all draws of an update.
-    pub(crate) fn of(nodes: &'a mut Nodes) -> After<'a>
-        ensures left { result.left ≡ 0 }
+impl<'a> Noted<'a> {
+    /// Notes draws in these nodes.
+    pub(crate) fn of(nodes: &'a mut Nodes) -> Noted<'a>
         ensures nodes { result.nodes.now ≡ nodes.old }
         ensures same_reference { result.nodes.ghost_name ≡ nodes.entry.ghost_name }
     {
-        After { left: 0, nodes }
+        Noted { nodes }
     }
 }
 
-impl Notes for After<'_> {
-    ghost noting = { λ a. record { left = a.left; nodes = a.nodes.now } };
+impl Notes for Noted<'_> {
+    ghost noting = { λ a. a.nodes.now };
 
     ghost name = { λ a. a.nodes.ghost_name };
 
     fn is_new(&self) -> bool {
-        self.left == 0 && self.nodes.is_new()
+        self.nodes.is_new()
     }
 
     #[inline(always)] // docs/SPEED.md, "Hints on inlining"
     fn pass(&mut self, byte: u8, asked: Asked, look: Look) -> bool {
-        if self.left == 0 {
-            return self.nodes.pass(byte, asked, look);
-        }
-        self.left -= 1;
-        true
+        self.nodes.pass(byte, asked, look)
     }
 
     #[inline(never)] // docs/SPEED.md, "Hints on inlining"

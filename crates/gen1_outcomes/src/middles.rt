@@ -1,5 +1,5 @@
 //! Positions between the two actions of a turn. Positions that agree are merged (docs/MECHANICS.md, "Link numbers").
-ghost use Rattle.std.specs.Prelude.{IfErr, IfOk, IfSome, IsFalse, IsOkUnless, IsTrue, OnOk, false, slice_index, slice_index_or, ℕ, ◌+◌, ◌-◌, ◌<◌, ◌≡◌, ◌≤◌};
+ghost use Rattle.std.specs.Prelude.{IfErr, IfNone, IfOk, IfSome, IsFalse, IsOkUnless, IsTrue, None, OnErr, OnOk, false, slice_index, slice_index_or, ℕ, ◌+◌, ◌-◌, ◌<◌, ◌≡◌, ◌≢◌, ◌≤◌, ◌⊎◌};
 ghost use Rattle.gen1_layout.specs.Parts.{joined, parts_of};
 ghost use Rattle.gen1_outcomes.specs.declared.fault.OutcomesFault.TheVariants.{Size};
 
@@ -34,7 +34,7 @@ pub struct Middle {
 }
 
 impl Middle {
-    ghost use Rattle.gen1_outcomes.specs.Middles.{Gets, GoOnAlike, IsTooLong};
+    ghost use Rattle.gen1_outcomes.specs.Middles.{Gets, GoOnAlike, IsTooLong, IsTooMuch};
     ghost use Rattle.gen1_outcomes.specs.Nodes.{IsChance};
     ghost use Rattle.std.specs.Prelude.{None, Some};
 
@@ -63,6 +63,7 @@ impl Middle {
         ensures rest { result.rest ≡ None }
         ensures draws { result.draws ≡ 0 }
         ensures one { result.ways ≡ 1 }
+        ensures certain { result.chance.num ≡ result.chance.whole }
     {
         Middle {
             bytes: [0; 384],
@@ -105,7 +106,9 @@ impl Middle {
 
     // Whether both positions agree.
     fn goes_on_as(&self, other: &Middle) -> bool
-        ensures { IsTrue result → GoOnAlike self.now other.now }
+        ensures same { IsTrue result → GoOnAlike self.now other.now }
+        ensures differ { IsFalse result → GoOnAlike self.now other.now
+            → (self.now.hash ≢ other.now.hash) ⊎ (self.now.rest ≡ None) }
     {
         self.hash == other.hash
             && are_same(self.rest, other.rest)
@@ -116,6 +119,7 @@ impl Middle {
     fn get(&mut self, other: &Middle) -> Result<(), OutcomesFault>
         ensures gets { OnOk result (Gets other.now self.old self.new) }
         ensures size { IsOkUnless result Size }
+        ensures large { OnErr result (IsTooMuch other.now self.old) }
     {
         match plus(self.chance, other.chance) {
             Some(chance) => match self.ways.checked_add(other.ways) {
@@ -133,7 +137,8 @@ impl Middle {
 
 // Whether both are those of positions, and the same.
 fn are_same(one: Option<Rest>, other: Option<Rest>) -> bool
-    ensures { IsTrue result → one ≡ other }
+    ensures same { IsTrue result → one ≡ other }
+    ensures differ { IsFalse result → (one ≡ None) ⊎ (one ≢ other) }
 {
     match (one, other) {
         (Some(rest), Some(others)) => {
@@ -157,7 +162,7 @@ pub struct Middles {
 }
 
 impl Middles {
-    ghost use Rattle.gen1_outcomes.specs.Middles.{GoOnAlike, IsAdded, IsPut, Joins};
+    ghost use Rattle.gen1_outcomes.specs.Middles.{GoOnAlike, HasNone, HasTooMuch, IsAdded, IsPut, IsTooMuch, Joins};
 
     /// None yet.
     pub fn new() -> Self
@@ -171,7 +176,8 @@ impl Middles {
 
     /// Whether there is no place left.
     pub fn is_full(&self) -> bool
-        ensures { IsFalse result → self.now.len < 16 }
+        ensures room { IsFalse result → self.now.len < 16 }
+        ensures full { IsTrue result → 16 ≤ self.now.len }
     {
         self.len >= MIDDLES
     }
@@ -191,7 +197,10 @@ impl Middles {
     pub fn add(&mut self, middle: &Middle) -> Result<(), OutcomesFault>
         requires room { self.old.len < 16 }
         ensures added { OnOk result (IsAdded middle.now self.old self.new) }
+        ensures next { OnOk result ((self.new.len ≡ self.old.len)
+            ⊎ HasNone middle.now self.old.len self.old.list) }
         ensures size { IsOkUnless result Size }
+        ensures large { OnErr result (HasTooMuch middle.now self.old.len self.old.list) }
     {
         match self.find(middle) {
             Some(place) => self.join(place, middle),
@@ -209,6 +218,8 @@ impl Middles {
             → GoOnAlike (slice_index_or self.old.list place past) middle.now }
         ensures joined { OnOk result (Joins middle.now self.old self.new) }
         ensures size { IsOkUnless result Size }
+        ensures large { (past : Middle) → OnErr result
+            (IsTooMuch middle.now (slice_index_or self.old.list place past)) }
     {
         let mut joined = self.list[place];
         joined.get(middle)?;
@@ -225,11 +236,12 @@ impl Middles {
         self.len += 1;
     }
 
-    // The place of a position that agrees.
+    // The place of a position that agrees, if there is one.
     fn find(&self, middle: &Middle) -> Option<usize>
         ensures within { IfSome result (λ place. place < self.now.len) }
         ensures alike { IfSome result (λ place. (past : Middle)
             → GoOnAlike (slice_index_or self.now.list place past) middle.now) }
+        ensures none { IfNone result (HasNone middle.now self.now.len self.now.list) }
     {
         'places: for place in 0..self.len {
             if self.list[place].goes_on_as(middle) {

@@ -40,7 +40,7 @@ pub struct Node {
     pub byte: u8,
     /// What is looked at of the byte.
     pub look: Look,
-    /// How many classes of damage are told apart, 1 to 39. 0: each damage.
+    /// How many classes of damage are distinguished, 1 to 39. 0: each damage.
     pub damage_classes: u8,
     /// The probability of the draws before it.
     pub above: Chance,
@@ -229,6 +229,7 @@ impl Node {
     }
 
     // The probability of the bytes that are alike to `byte`, without the factors of 2 that both numbers share.
+    #[tactic(auto, using(crate::proofs::Walking::part_positive, crate::proofs::Walking::part_exact, crate::proofs::Walking::part_few))]
     fn part(&self) -> (u16, u16)
         ensures positive { 0 < result.1 }
         ensures exact { result.0 * self.now.total ≡ result.1 * self.now.count }
@@ -313,7 +314,7 @@ pub struct Nodes {
     pub too_large: bool,
     /// The probability of what comes before the first draw.
     pub before: Chance,
-    /// How many classes of damage are told apart, and from which probability on draws are noted.
+    /// How many classes of damage are distinguished, and from which probability on draws are noted.
     pub options: OutcomeOptions,
     ghost few: { len ≤ 24 },
 }
@@ -405,6 +406,13 @@ impl Nodes {
             return self.list[self.at].is_as(byte, look);
         }
         self.asked[self.at] == Asked::Unknown
+    }
+
+    /// Whether the way had all its draws.
+    pub fn is_past(&self) -> bool
+        ensures { IsTrue result → self.now.len ≤ self.now.at }
+    {
+        self.at >= self.len
     }
 
     /// A search found nothing: the way is marked as too large. No known update has one.

@@ -3,7 +3,7 @@
 /// How outcomes are listed.
 #[derive(Clone, Copy, PartialEq, Eq, Debug, Drop)]
 pub struct OutcomeOptions {
-    /// In how many classes a roll of damage is told apart, 1 to 39. 0: each damage.
+    /// How many classes of a damage roll are distinguished, 1 to 39. 0: each damage.
     ///
     /// A class has neighbouring damages, and one of them near its middle is played for all. All damages from the HP of the
     /// target on are one class more. No class has damages that break a substitute and damages that don't.

@@ -4,12 +4,14 @@ ghost use Rattle.gen1_machine.specs.State.{State};
 ghost use Rattle.gen1_layout.specs.Within.{Stands};
 ghost use Rattle.gen1_engine.specs.Update.{AreOffered};
 ghost use Rattle.gen1_outcomes.specs.Beginning.{have_two_actions};
+ghost use Rattle.gen1_outcomes.specs.Chances.{IsBelow};
 ghost use Rattle.gen1_outcomes.specs.Complete.{Extends, IsExact, ListsEvery, ListsFrom, ListsHandled, LosesNone, Offers, OffersTwo};
 ghost use Rattle.gen1_outcomes.specs.declared.fault.OutcomesFault.TheVariants.{Size};
 ghost use Rattle.gen1_outcomes.specs.Listing.{AreThose, EachFollows, HasSome, StillFollow, sum_of};
 ghost use Rattle.gen1_outcomes.specs.Middles.{AreReached, IsAdded, IsReached};
-ghost use Rattle.gen1_outcomes.specs.Merging.{AreDistinct, IsShort, LeavesOut, StayIndexed};
+ghost use Rattle.gen1_outcomes.specs.Merging.{AreDistinct, IsIndexed, IsShort, LeavesOut, StayIndexed};
 ghost use Rattle.gen1_outcomes.specs.Shares.{CountsEach, EachIsProbable, StayProbable, TakesEach, taken};
+ghost use Rattle.gen1_outcomes.specs.Weights.{AddsPart, AddsPending, AddsUpdate, HasProbabilities, KeepsPending};
 
 use crate::chances::is_below;
 use crate::fault::OutcomesFault;
@@ -62,6 +64,8 @@ pub fn list_outcomes(
         → IfOk result (λ o. EachFollows s pair.0 pair.1 options o.count successors.new) }
     ensures every { (s : State) → Stands battle.now s → IsExact options
         → IfOk result (λ o. ListsEvery s pair.0 pair.1 o.count successors.new) }
+    ensures weights { (s : State) → Stands battle.now s → IsExact options
+        → IfOk result (λ o. HasProbabilities s pair.0 pair.1 o.count o.whole successors.new) }
     ensures sum { IfOk result (λ o. sum_of o.count successors.new + o.left_out ≡ o.whole) }
     ensures within { IfOk result (λ o. o.count ≤ length successors.new) }
     ensures all { options.least ≡ 0 → IfOk result (λ o. o.left_out ≡ 0) }
@@ -101,6 +105,8 @@ fn list_ways(
         EachFollows s ways.now.one ways.now.two ways.now.options o.count successors.new) }
     ensures every { (s : State) → Offers ways.now s → IsExact ways.now.options → IfOk result (λ o.
         ListsEvery s ways.now.one ways.now.two o.count successors.new) }
+    ensures weights { (s : State) → Offers ways.now s → IsExact ways.now.options → IfOk result (λ o.
+        HasProbabilities s ways.now.one ways.now.two o.count o.whole successors.new) }
     ensures sum { IfOk result (λ o. sum_of o.count successors.new + o.left_out ≡ o.whole) }
     ensures within { IfOk result (λ o. o.count ≤ length successors.new) }
     ensures all { ways.now.options.least ≡ 0 → IfOk result (λ o. o.left_out ≡ 0) }
@@ -136,6 +142,9 @@ fn add_all(
         tally.new.count successors.new) }
     ensures every { OnOk result (IsExact ways.now.options → (s : State) → Offers ways.now s
         → ListsEvery s ways.now.one ways.now.two tally.new.count successors.new) }
+    ensures weights { OnOk result (IsExact ways.now.options
+        → IsIndexed table.old tally.old.count successors.old → (s : State) → Offers ways.now s
+        → AddsUpdate ways.now s tally.old successors.old tally.new successors.new) }
     ensures left_out { OnOk result (LeavesOut tally.old tally.new) }
     ensures probable { OnOk result (StayProbable tally.old successors.old tally.new
         successors.new) }
@@ -168,6 +177,9 @@ fn add_in_parts(
     ensures every { OnOk result (IsExact ways.now.options → tally.old.least ≡ 0 → (s : State)
         → OffersTwo ways.now s
         → ListsEvery s ways.now.one ways.now.two tally.new.count successors.new) }
+    ensures weights { OnOk result (IsExact ways.now.options → tally.old.least ≡ 0
+        → IsIndexed table.old tally.old.count successors.old → (s : State) → OffersTwo ways.now s
+        → AddsUpdate ways.now s tally.old successors.old tally.new successors.new) }
     ensures left_out { OnOk result (LeavesOut tally.old tally.new) }
     ensures probable { OnOk result (StayProbable tally.old successors.old tally.new
         successors.new) }
@@ -183,6 +195,10 @@ fn add_in_parts(
         let Some(middle) = ways.begin(&mut nodes) else {
             return Err(OutcomesFault::Size);
         };
+        // A way that ends before it had all its draws. No known update has one.
+        if !nodes.is_past() {
+            return Err(OutcomesFault::Size);
+        }
         make_room(ways, &mut middles, successors, table, tally)?;
         keep(&middle, &mut middles, successors, tally)?;
         if !nodes.advance() {
@@ -206,6 +222,10 @@ fn keep(
     ensures kept { OnOk result ((middles.new ≡ middles.old)
         ⊎ IsAdded middle.now middles.old middles.new) }
     ensures every { OnOk result (tally.old.least ≡ 0 → IsAdded middle.now middles.old middles.new) }
+    ensures still { OnOk result (tally.old.least ≡ 0
+        → (tally.new ≡ tally.old) × (successors.new ≡ successors.old)) }
+    ensures below { OnOk result (IsBelow tally.old.least middle.now.chance
+        → middles.new ≡ middles.old) }
     ensures left_out { OnOk result (LeavesOut tally.old tally.new) }
     ensures probable { OnOk result (StayProbable tally.old successors.old tally.new
         successors.new) }
@@ -236,6 +256,10 @@ fn make_room(
     ensures every { OnOk result (IsExact ways.now.options → tally.old.least ≡ 0
         → LosesNone ways.now middles.old tally.old.count successors.old middles.new
         tally.new.count successors.new) }
+    ensures parts { OnOk result (IsExact ways.now.options → tally.old.least ≡ 0
+        → IsIndexed table.old tally.old.count successors.old
+        → KeepsPending ways.now middles.old tally.old successors.old middles.new tally.new
+        successors.new) }
     ensures left_out { OnOk result (LeavesOut tally.old tally.new) }
     ensures probable { OnOk result (StayProbable tally.old successors.old tally.new
         successors.new) }
@@ -268,6 +292,9 @@ fn go_on_from(
     ensures every { OnOk result (IsExact ways.now.options → tally.old.least ≡ 0
         → ListsHandled ways.now middles.now tally.old.count successors.old tally.new.count
         successors.new) }
+    ensures parts { OnOk result (IsExact ways.now.options → tally.old.least ≡ 0
+        → IsIndexed table.old tally.old.count successors.old
+        → AddsPending ways.now middles.now tally.old successors.old tally.new successors.new) }
     ensures left_out { OnOk result (LeavesOut tally.old tally.new) }
     ensures probable { OnOk result (StayProbable tally.old successors.old tally.new
         successors.new) }
@@ -299,6 +326,9 @@ fn finish(
     ensures every { OnOk result (IsExact ways.now.options → tally.old.least ≡ 0 → (s : State)
         → Offers ways.now s
         → ListsFrom ways.now middle.now s tally.new.count successors.new) }
+    ensures parts { OnOk result (IsExact ways.now.options → tally.old.least ≡ 0
+        → IsIndexed table.old tally.old.count successors.old → (s : State) → Offers ways.now s
+        → AddsPart ways.now middle.now s tally.old successors.old tally.new successors.new) }
     ensures keeps { OnOk result (Extends tally.old.count successors.old tally.new.count
         successors.new) }
     ensures left_out { OnOk result (LeavesOut tally.old tally.new) }

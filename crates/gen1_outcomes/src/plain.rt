@@ -12,7 +12,7 @@ ghost use Rattle.gen1_outcomes.specs.Following.{CanFollow};
 ghost use Rattle.gen1_outcomes.specs.Plain.{ArePlain, HasDraws, IsDraw, IsPlain, IsUnderway, IsWay, KeepsUnused, KeepsUpdate, PlaysPlain, look_at, number_of, walk_before};
 
 use crate::byte_set::ByteSet;
-use crate::explorer::{After, Explorer};
+use crate::explorer::{Explorer, Noted};
 use crate::fault::OutcomesFault;
 use crate::nodes::{Chance, Node, Nodes};
 use crate::options::OutcomeOptions;
@@ -154,7 +154,7 @@ pub fn next<S: EventSink>(
     }
     *battle = copy_of(&walk.battle);
     let path = nodes.path();
-    let explorer = Explorer::new(path, After::of(&mut nodes));
+    let explorer = Explorer::new(path, Noted::of(&mut nodes));
     explorer.draws_a_stream();
     play(battle, one, two, explorer, events);
     match nodes.chance() {

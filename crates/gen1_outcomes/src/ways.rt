@@ -11,7 +11,7 @@ ghost use Rattle.gen1_outcomes.specs.Nodes.{IsChance, IsTooLarge};
 ghost use Rattle.gen1_outcomes.specs.Middles.{IsTooLong, PlaysOn, Reaches};
 
 use crate::beginning::{begin, end, have_two_actions};
-use crate::explorer::{After, Explorer};
+use crate::explorer::{Explorer, Noted};
 use crate::fault::OutcomesFault;
 use crate::middles::Middle;
 use crate::nodes::{Chance, Nodes};
@@ -108,7 +108,7 @@ impl Ways {
         }
         *battle = copy_of(&self.start);
         let path = self.nodes.path();
-        let explorer = Explorer::new(path, After::of(&mut self.nodes));
+        let explorer = Explorer::new(path, Noted::of(&mut self.nodes));
         explorer.draws_a_stream();
         play(
             battle,
@@ -142,7 +142,7 @@ impl Ways {
     {
         let mut battle = copy_of(&self.start);
         let path = nodes.path();
-        let mut explorer = Explorer::new(path, After::of(&mut *nodes));
+        let mut explorer = Explorer::new(path, Noted::of(&mut *nodes));
         let one = copied(&self.one);
         let two = copied(&self.two);
         explorer.draws_a_stream();
@@ -195,7 +195,7 @@ impl Ways {
         ensures plays { PlaysOn self.now middle.now nodes.old nodes.new battle.new }
     {
         let path = nodes.path();
-        let mut explorer = Explorer::new(path, After::of(&mut *nodes));
+        let mut explorer = Explorer::new(path, Noted::of(&mut *nodes));
         explorer.draws_a_stream();
         match middle.rest {
             Some(rest) => {

@@ -126,12 +126,12 @@ mod alike {
         0x5555_5555_5555_5555 << remainder
     }
 
-    // The same by 4.
+    // The bits of a word whose places leave this remainder when they are divided by 4.
     fn every_fourth(remainder: u8) -> u64 {
         0x1111_1111_1111_1111 << remainder
     }
 
-    // The same by 8.
+    // The bits of a word whose places leave this remainder when they are divided by 8.
     fn every_eighth(remainder: u8) -> u64 {
         0x0101_0101_0101_0101 << remainder
     }
@@ -499,7 +499,7 @@ mod classes {
 
     use crate::generated::rolls::Look;
 
-    /// What of the byte is told apart, as a number: what the look sees, or with classes of damage the class of the damage.
+    /// What is distinguished of the byte, as a number: what the look sees, or with classes of damage the class of the damage.
     ///
     /// There are as many classes as the first number says, or with 0 as many as there are damages. Damage below the edge and
     /// damage from it on are in different classes, so the weight of each class counts only one of them.
@@ -511,7 +511,7 @@ mod classes {
         }
     }
 
-    // What is told apart of a part of the damage. From the edge on the classes are numbered after those below it.
+    // What is distinguished of a part of the damage. From the edge on the classes are numbered after those below it.
     fn part_told(damage_classes: u8, damage: u16, edge: u16, part: u16) -> u32 {
         if damage_classes == 0 {
             return u32::from(part);
@@ -544,13 +544,13 @@ mod explorer {
     use crate::generated::outcomes::script::{DEPTH, Script};
     use crate::generated::rolls::{ByteTest, Look, Rolls};
 
-    /// What draws are noted in. Nothing but [`After`] is; a type parameter lets the explorer hold a reference.
+    /// What draws are noted in. Nothing but [`Noted`] is; a type parameter lets the explorer hold a reference.
     pub(crate) trait Notes {
         // What is noted so far, and the reference to it.
         /// Whether the next draw is one that no way had before.
         fn is_new(&self) -> bool;
 
-        /// Goes past the next draw, if it is one of the first part or of this way.
+        /// Goes past the next draw, if it is one of this way.
         fn pass(&mut self, byte: u8, asked: Asked, look: Look) -> bool;
 
         /// Notes that a draw that no way had before has this byte, of those that it may have.
@@ -560,33 +560,26 @@ mod explorer {
         fn miss(&mut self);
     }
 
-    /// Nodes for the draws after a first part of the update, which may have no draw. The draws of the first part are not noted.
-    pub(crate) struct After<'a> {
-        /// How many draws of the first part are still to come.
-        pub(crate) left: usize,
-        /// The draws after it. They are borrowed, so that an update moves a reference to them.
-        pub(crate) nodes: &'a mut Nodes,
+    /// Nodes that draws are noted in. They are borrowed, so that an update moves a reference to them.
+    pub(crate) struct Noted<'a> {
+        nodes: &'a mut Nodes,
     }
 
-    impl<'a> After<'a> {
-        /// Nodes for all draws of an update.
-        pub(crate) fn of(nodes: &'a mut Nodes) -> After<'a> {
-            After { left: 0, nodes }
+    impl<'a> Noted<'a> {
+        /// Notes draws in these nodes.
+        pub(crate) fn of(nodes: &'a mut Nodes) -> Noted<'a> {
+            Noted { nodes }
         }
     }
 
-    impl Notes for After<'_> {
+    impl Notes for Noted<'_> {
         fn is_new(&self) -> bool {
-            self.left == 0 && self.nodes.is_new()
+            self.nodes.is_new()
         }
 
         #[inline(always)] // docs/SPEED.md, "Hints on inlining"
         fn pass(&mut self, byte: u8, asked: Asked, look: Look) -> bool {
-            if self.left == 0 {
-                return self.nodes.pass(byte, asked, look);
-            }
-            self.left -= 1;
-            true
+            self.nodes.pass(byte, asked, look)
         }
 
         #[inline(never)] // docs/SPEED.md, "Hints on inlining"
@@ -1201,7 +1194,7 @@ mod middles {
             self.len += 1;
         }
 
-        // The place of a position that agrees.
+        // The place of a position that agrees, if there is one.
         fn find(&self, middle: &Middle) -> Option<usize> {
             for place in 0..self.len {
                 if self.list[place].goes_on_as(middle) {
@@ -1250,7 +1243,7 @@ mod nodes {
         pub byte: u8,
         /// What is looked at of the byte.
         pub look: Look,
-        /// How many classes of damage are told apart, 1 to 39. 0: each damage.
+        /// How many classes of damage are distinguished, 1 to 39. 0: each damage.
         pub damage_classes: u8,
         /// The probability of the draws before it.
         pub above: Chance,
@@ -1445,7 +1438,7 @@ mod nodes {
         pub too_large: bool,
         /// The probability of what comes before the first draw.
         pub before: Chance,
-        /// How many classes of damage are told apart, and from which probability on draws are noted.
+        /// How many classes of damage are distinguished, and from which probability on draws are noted.
         pub options: OutcomeOptions,
     }
 
@@ -1510,6 +1503,11 @@ mod nodes {
                 return self.list[self.at].is_as(byte, look);
             }
             self.asked[self.at] == Asked::Unknown
+        }
+
+        /// Whether the way had all its draws.
+        pub fn is_past(&self) -> bool {
+            self.at >= self.len
         }
 
         /// A search found nothing: the way is marked as too large. No known update has one.
@@ -1611,7 +1609,7 @@ mod options {
     /// How outcomes are listed.
     #[derive(Clone, Copy, PartialEq, Eq, Debug)]
     pub struct OutcomeOptions {
-        /// In how many classes a roll of damage is told apart, 1 to 39. 0: each damage.
+        /// How many classes of a damage roll are distinguished, 1 to 39. 0: each damage.
         ///
         /// A class has neighbouring damages, and one of them near its middle is played for all. All damages from the HP of the
         /// target on are one class more. No class has damages that break a substitute and damages that don't.
@@ -1727,6 +1725,10 @@ mod outcomes {
             let Some(middle) = ways.begin(&mut nodes) else {
                 return Err(OutcomesFault::Size);
             };
+            // A way that ends before it had all its draws. No known update has one.
+            if !nodes.is_past() {
+                return Err(OutcomesFault::Size);
+            }
             make_room(ways, &mut middles, successors, table, tally)?;
             keep(&middle, &mut middles, successors, tally)?;
             if !nodes.advance() {
@@ -1831,7 +1833,7 @@ pub mod plain {
     //! The calls take any bytes. [`Ways`](crate::Ways) is for callers that want its type to guarantee them.
 
     use crate::generated::outcomes::byte_set::ByteSet;
-    use crate::generated::outcomes::explorer::{After, Explorer};
+    use crate::generated::outcomes::explorer::{Explorer, Noted};
     use crate::generated::outcomes::fault::OutcomesFault;
     use crate::generated::outcomes::nodes::{Chance, Node, Nodes};
     use crate::generated::outcomes::options::OutcomeOptions;
@@ -1949,7 +1951,7 @@ pub mod plain {
         }
         *battle = copy_of(&walk.battle);
         let path = nodes.path();
-        let explorer = Explorer::new(path, After::of(&mut nodes));
+        let explorer = Explorer::new(path, Noted::of(&mut nodes));
         explorer.draws_a_stream();
         play(battle, one, two, explorer, events);
         match nodes.chance() {
@@ -2226,7 +2228,7 @@ mod ways {
     //! Each way of an update apart ([docs/MECHANICS.md, "Link numbers"](https://hibsuloy.example/gen1/blob/main/docs/MECHANICS.md#link-numbers)).
 
     use crate::generated::outcomes::beginning::{begin, end, have_two_actions};
-    use crate::generated::outcomes::explorer::{After, Explorer};
+    use crate::generated::outcomes::explorer::{Explorer, Noted};
     use crate::generated::outcomes::fault::OutcomesFault;
     use crate::generated::outcomes::middles::Middle;
     use crate::generated::outcomes::nodes::{Chance, Nodes};
@@ -2297,7 +2299,7 @@ mod ways {
             }
             *battle = copy_of(&self.start);
             let path = self.nodes.path();
-            let explorer = Explorer::new(path, After::of(&mut self.nodes));
+            let explorer = Explorer::new(path, Noted::of(&mut self.nodes));
             explorer.draws_a_stream();
             play(
                 battle,
@@ -2321,7 +2323,7 @@ mod ways {
         pub(crate) fn begin(&self, nodes: &mut Nodes) -> Option<Middle> {
             let mut battle = copy_of(&self.start);
             let path = nodes.path();
-            let mut explorer = Explorer::new(path, After::of(&mut *nodes));
+            let mut explorer = Explorer::new(path, Noted::of(&mut *nodes));
             let one = copied(&self.one);
             let two = copied(&self.two);
             explorer.draws_a_stream();
@@ -2357,7 +2359,7 @@ mod ways {
         // Plays the rest of the update from a position, or all of it from its beginning.
         fn play_on(&self, nodes: &mut Nodes, middle: &Middle, battle: &mut Packed) {
             let path = nodes.path();
-            let mut explorer = Explorer::new(path, After::of(&mut *nodes));
+            let mut explorer = Explorer::new(path, Noted::of(&mut *nodes));
             explorer.draws_a_stream();
             match middle.rest {
                 Some(rest) => {

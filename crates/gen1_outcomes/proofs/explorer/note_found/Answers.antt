@@ -1,7 +1,8 @@
 use Rattle.std.proofs.Common.{inr, refl, subst, sym, ◌⊎◌}
 use Rattle.gen1_outcomes.specs.declared.nodes.Asked.TheVariants.{First}
 use Rattle.gen1_outcomes.specs.Bytes.{ArePassing, IsNone}
-use Rattle.gen1_outcomes.specs.Nodes.{IsFresh, IsSettled, NotesNew, Noting}
+use Rattle.gen1_outcomes.specs.declared.nodes.Nodes.{Nodes}
+use Rattle.gen1_outcomes.specs.Nodes.{IsFresh, IsSettled, NotesNew}
 use Rattle.gen1_rolls.specs.Looks.{passes}
 use Rattle.gen1_outcomes.proofs.explorer.note_found.Goals as goal
 
@@ -14,8 +15,8 @@ returns-then-not-pass-clause-noted g c meets =
       meets,
       inr (
         may,
-        subst (λ (n : Noting). ArePassing (passes c.args.test) may ⊎ (IsSettled n × IsNone may)) same c.may_have-bytes.ensures,
-        subst (λ (n : Noting). NotesNew c.args.byte (First c.args.test) c.args.look may n last) same
-            (c.note.ensures.noted (subst (λ (n : Noting). IsFresh n) (sym same) (c.if-not-pass.ensures.new refl))),
+        subst (λ (n : Nodes). ArePassing (passes c.args.test) may ⊎ (IsSettled n × IsNone may)) same c.may_have-bytes.ensures,
+        subst (λ (n : Nodes). NotesNew c.args.byte (First c.args.test) c.args.look may n last) same
+            (c.note.ensures.noted (subst (λ (n : Nodes). IsFresh n) (sym same) (c.if-not-pass.ensures.new refl))),
       ),
     )

@@ -3,6 +3,7 @@ use Rattle.gen1_outcomes.proofs.Complete.{extends_those, going_first, going_on, 
 use Rattle.gen1_outcomes.proofs.Lists.{on_ok_then, still_then, still_those}
 use Rattle.gen1_outcomes.proofs.Positions.{reached_more}
 use Rattle.gen1_outcomes.proofs.Shares.{leaves_then, on_ok_leaves, on_ok_stay, stay_then}
+use Rattle.gen1_outcomes.proofs.Stages.{shared_all, shared_first, shared_next, shared_way, unit_begins, unit_next, unit_stays}
 use Rattle.gen1_outcomes.proofs.Table.{indexed_kept, on_ok_then_indexed}
 use Rattle.gen1_outcomes.proofs.outcomes.add_in_parts.Goals as goal
 
@@ -13,6 +14,9 @@ walk-init c =
       within = omega arith;
       options = c.new-nodes.ensures.options ∙ c.options.ensures;
       every = λ exact least. going_first _ _ _ c.new-nodes.ensures.at c.new-nodes.ensures.empty;
+      parts = λ exact least are.
+          shared_first c.args.ways.now c.new-nodes.result c.new-middles.result c.args.tally.now c.args.successors.now c.new-nodes.ensures.empty c.new-middles.ensures;
+      before = unit_begins c.new-nodes.result.before c.new-nodes.ensures.before;
       left_out = record { least = refl; none = λ l z. z };
       probable = λ are. are;
       takes = refl;
@@ -40,6 +44,21 @@ walk-preserved c =
           (c.in_ok-keep.ensures.every (c.in_ok-make_room.ensures.left_out.least ∙ c.walk.invariant.left_out.least ∙ least))
           (extends_those c.make_room.new.tally.count c.keep.new.tally.count c.make_room.new.successors c.keep.new.successors c.in_ok-keep.ensures.count c.in_ok-keep.ensures.battles)
           (c.walk.invariant.every exact least));
+      parts = λ exact least are.
+          shared_next c.args.ways.now c.begin.new.nodes c.advance.new.self c.keep.new.middles c.args.tally.now c.keep.new.tally c.args.successors.now c.keep.new.successors
+          (c.if-not-advance.ensures.on refl)
+          (shared_way c.args.ways.now c.walk.nodes c.begin.new.nodes c.in-Some.middle c.walk.middles c.make_room.new.middles c.keep.new.middles
+          c.args.tally.now c.walk.tally c.make_room.new.tally c.keep.new.tally
+          c.args.successors.now c.walk.successors c.make_room.new.successors c.keep.new.successors
+          c.in-Some.ensures.reaches exact c.walk.invariant.options c.in-Some.ensures.fits (c.walk.invariant.every exact least).at (c.walk.invariant.every exact least).known
+          (c.if-not-is_past.ensures refl) c.in-Some.ensures.chance (unit_stays c.args.ways.now c.walk.nodes c.begin.new.nodes c.in-Some.middle c.in-Some.ensures.reaches c.walk.invariant.before)
+          (c.in_ok-make_room.ensures.parts exact (c.walk.invariant.left_out.least ∙ least) (c.walk.invariant.indexed are))
+          (c.in_ok-keep.ensures.every (c.in_ok-make_room.ensures.left_out.least ∙ c.walk.invariant.left_out.least ∙ least))
+          (c.in_ok-keep.ensures.still (c.in_ok-make_room.ensures.left_out.least ∙ c.walk.invariant.left_out.least ∙ least)).0
+          (c.in_ok-keep.ensures.still (c.in_ok-make_room.ensures.left_out.least ∙ c.walk.invariant.left_out.least ∙ least)).1
+          (c.walk.invariant.parts exact least are));
+      before = unit_next c.begin.new.nodes c.advance.new.self (c.if-not-advance.ensures.on refl)
+          (unit_stays c.args.ways.now c.walk.nodes c.begin.new.nodes c.in-Some.middle c.in-Some.ensures.reaches c.walk.invariant.before);
       probable = stay_then c.args.tally.now c.make_room.new.tally c.keep.new.tally c.args.successors.now c.make_room.new.successors c.keep.new.successors
           (stay_then c.args.tally.now c.walk.tally c.make_room.new.tally c.args.successors.now c.walk.successors c.make_room.new.successors
           c.walk.invariant.probable c.in_ok-make_room.ensures.probable)
@@ -104,3 +123,24 @@ returns-then-not-advance-clause-every c =
     (c.walk.invariant.every exact least))
     s of stream is))
     c.go_on_from.ensures.every
+
+pub returns-then-not-advance-clause-weights : goal.returns-then-not-advance-clause-weights
+returns-then-not-advance-clause-weights c =
+    on_ok_map c.go_on_from.result _ _ (λ parts exact least are s of.
+    shared_all c.args.ways.now c.begin.new.nodes c.keep.new.middles c.args.tally.now c.keep.new.tally c.go_on_from.new.tally
+    c.args.successors.now c.keep.new.successors c.go_on_from.new.successors (c.if-not-advance.ensures.done refl)
+    (shared_way c.args.ways.now c.walk.nodes c.begin.new.nodes c.in-Some.middle c.walk.middles c.make_room.new.middles c.keep.new.middles
+    c.args.tally.now c.walk.tally c.make_room.new.tally c.keep.new.tally
+    c.args.successors.now c.walk.successors c.make_room.new.successors c.keep.new.successors
+    c.in-Some.ensures.reaches exact c.walk.invariant.options c.in-Some.ensures.fits (c.walk.invariant.every exact least).at (c.walk.invariant.every exact least).known
+    (c.if-not-is_past.ensures refl) c.in-Some.ensures.chance (unit_stays c.args.ways.now c.walk.nodes c.begin.new.nodes c.in-Some.middle c.in-Some.ensures.reaches c.walk.invariant.before)
+    (c.in_ok-make_room.ensures.parts exact (c.walk.invariant.left_out.least ∙ least) (c.walk.invariant.indexed are))
+    (c.in_ok-keep.ensures.every (c.in_ok-make_room.ensures.left_out.least ∙ c.walk.invariant.left_out.least ∙ least))
+    (c.in_ok-keep.ensures.still (c.in_ok-make_room.ensures.left_out.least ∙ c.walk.invariant.left_out.least ∙ least)).0
+    (c.in_ok-keep.ensures.still (c.in_ok-make_room.ensures.left_out.least ∙ c.walk.invariant.left_out.least ∙ least)).1
+    (c.walk.invariant.parts exact least are))
+    (parts exact (c.in_ok-keep.ensures.left_out.least ∙ c.in_ok-make_room.ensures.left_out.least ∙ c.walk.invariant.left_out.least ∙ least)
+    (indexed_kept c.make_room.new.table c.make_room.new.tally.count c.keep.new.tally.count c.make_room.new.successors c.keep.new.successors
+    c.in_ok-keep.ensures.battles c.in_ok-keep.ensures.count (c.in_ok-make_room.ensures.indexed (c.walk.invariant.indexed are))))
+    s of)
+    c.go_on_from.ensures.parts

@@ -14,3 +14,10 @@ returns-then-is_below-clause-every c =
     let below = c.if-is_below.ensures.below refl in
     let m = c.args.middle.now in
     absurd (omega (arith, below, ap (λ (n : ℕ). n * m.chance.whole) least)))
+
+pub returns-then-is_below-clause-still : goal.returns-then-is_below-clause-still
+returns-then-is_below-clause-still c =
+    on_ok_of c.count_ways.result _ (λ least.
+    let below = c.if-is_below.ensures.below refl in
+    let m = c.args.middle.now in
+    absurd (omega (arith, below, ap (λ (n : ℕ). n * m.chance.whole) least)))

@@ -3,6 +3,7 @@ use Rattle.gen1_outcomes.specs.declared.options.OutcomeOptions.{OutcomeOptions}
 use Rattle.gen1_outcomes.proofs.Complete.{finished_every}
 use Rattle.gen1_outcomes.proofs.Lists.{finished_follows}
 use Rattle.gen1_outcomes.proofs.Shares.{finished_all, finished_left, finished_probable, none_probable}
+use Rattle.gen1_outcomes.proofs.Stages.{finished_weights}
 use Rattle.gen1_outcomes.proofs.Table.{finished_once, none_indexed}
 use Rattle.gen1_outcomes.proofs.outcomes.list_ways.Goals as goal
 
@@ -36,3 +37,9 @@ pub returns-clause-every : goal.returns-clause-every
 returns-clause-every c s of exact =
     finished_every s c.args.ways.now.one c.args.ways.now.two c.add_all.new.tally.count c.add_all.new.successors c.finished.result
     (c.in_ok-add_all.ensures.every exact s of) c.finished.ensures.count
+
+pub returns-clause-weights : goal.returns-clause-weights
+returns-clause-weights c s of exact =
+    let are = none_indexed c.args.table.now 0 c.args.successors.now refl in
+    finished_weights c.args.ways.now s _ c.add_all.new.tally c.args.successors.now c.add_all.new.successors c.finished.result refl refl
+    (c.in_ok-add_all.ensures.weights exact are s of) (c.in_ok-add_all.ensures.indexed are).distinct c.finished.ensures.count c.finished.ensures.whole

@@ -13,7 +13,7 @@ use Rattle.gen1_outcomes.specs.declared.plain.PlainWalk.{PlainWalk}
 use Rattle.gen1_outcomes.specs.Following.{Leads}
 use Rattle.gen1_outcomes.specs.Nodes.{IsChance}
 use Rattle.gen1_outcomes.specs.Plain.{EndsWith, GoesOnTo, PlaysPlain}
-use Rattle.gen1_outcomes.proofs.Logs.{leads_of, logged_by, noting_is, same_place}
+use Rattle.gen1_outcomes.proofs.Logs.{leads_of, logged_by, same_place}
 use Rattle.gen1_outcomes.proofs.Offered.{can_follow, leads_pair, way_as}
 use Rattle.gen1_outcomes.proofs.Walking.{next_is}
 use Rattle.gen1_outcomes.proofs.plain.next.Goals as goal
@@ -54,7 +54,7 @@ returns-in-Some-chance-clause-plays g c =
     let way =
     way_as _ _ _ _ _ nodes (λ (log : List Entry). (s : State) → Stands walk.battle s → (pair : Choice × Choice)
     → choices_at (walk.one, walk.two) ≡ Some pair → AreOffered s pair.0 pair.1 → Leads s pair.0 pair.1 log parts events)
-    c.new-explorer.ensures.script (c.new-explorer.ensures.noting ∙ noting_is _ 0 _ before c.of.ensures.left c.of.ensures.nodes)
+    c.new-explorer.ensures.script (c.new-explorer.ensures.noting ∙ c.of.ensures.nodes)
     (sym (rests (sym (same ∙ is)))) (
       logged_by _ _ start last c.new-explorer.ensures.log c.draws_a_stream.ensures c.play.ensures.steps,
       λ s h pair read.

@@ -10,6 +10,7 @@ invariant-places l =
       at : l.self.at ≡ 0;
       asked : l.self.asked ≡ l.fn.self.asked;
       options : l.self.options ≡ l.fn.self.options;
+      before : l.self.before ≡ l.fn.self.before;
       few : l.self.len + l.counter ≤ 24;
       shorter : l.self.len ≤ l.fn.self.len;
       done : (k : ℕ) (none : Node) → l.self.len ≤ k → k < l.fn.self.len → IsDone (get_or l.fn.self.list k none);

@@ -1,8 +1,9 @@
-use Rattle.std.proofs.Common.{ap, arith, cond, get_or, get_or-set_other, get_or-set_same, inl, inr, length, refl, set, subst, sym, ◌<◌, ◌≡◌, ◌≢◌, ◌∙◌, ◌⊎◌, ℕ}
+use Rattle.std.proofs.Common.{ap, arith, cond, get_or, get_or-set_other, get_or-set_same, inl, inr, length, refl, set, subst, sym, ◌<◌, ◌≡◌, ◌≢◌, ◌+◌, ◌∙◌, ◌⊎◌, ℕ}
+use Rattle.std.proofs.lemmas.List.{length-set}
 use Rattle.gen1_outcomes.specs.declared.nodes.Asked.TheVariants.{Unknown}
 use Rattle.gen1_outcomes.specs.declared.nodes.Chance.{Chance}
 use Rattle.gen1_outcomes.specs.declared.nodes.Node.{Node}
-use Rattle.gen1_outcomes.specs.Bytes.{has}
+use Rattle.gen1_outcomes.specs.Bytes.{has, size}
 use Rattle.gen1_outcomes.specs.Classes.{alike_in}
 use Rattle.gen1_outcomes.specs.Nodes.{IsChance, IsTooLarge}
 use Rattle.gen1_outcomes.proofs.Walking.{covers}
@@ -34,6 +35,7 @@ returns-in-Some c le =
     λ x lt. rw (c.new.ensures.classes, c.new.ensures.look, c.new.ensures.byte) (c.new.ensures.rest x lt)
     in
     inl (record {
+      long = omega (arith, inside, length-set old.list old.len node);
       length = refl;
       at = refl;
       asks = get_or-set_same old.asked old.len c.args.asked Unknown room;
@@ -47,6 +49,8 @@ returns-in-Some c le =
       above = λ past. subst (λ (a : Chance). IsChance old a) (sym (ap (λ (n : Node). n.above) (here past) ∙ c.new.ensures.above)) c.in-Some.ensures.some;
       fits = refl;
       since = refl;
+      rest = λ past x lt. ap (λ (n : Node). has n.rest x) (here past) ∙ c.new.ensures.rest x lt;
+      both = λ past. subst (λ (n : Node). n.count + size n.rest ≡ size may) (sym (here past)) c.new.ensures.count;
       weight = λ class is past. ap (λ (n : Node). n.count) (here past) ∙ c.new.ensures.weight class is;
       covers = covers may old _ node refl before here rest;
     })

@@ -15,9 +15,8 @@ use Rattle.gen1_outcomes.specs.Beginning.{Begins, unflinched}
 use Rattle.gen1_outcomes.specs.Following.{Walk}
 use Rattle.gen1_outcomes.specs.Logs.{logged, place_at}
 use Rattle.gen1_outcomes.specs.Middles.{Reaches}
-use Rattle.gen1_outcomes.specs.Nodes.{Noting}
 use Rattle.gen1_outcomes.proofs.Positions.{within_bytes}
-use Rattle.gen1_outcomes.proofs.Logs.{logged_by, notes_keep, noting_is, same_place}
+use Rattle.gen1_outcomes.proofs.Logs.{logged_by, notes_keep, same_place}
 use Rattle.gen1_outcomes.proofs.Offered.{way_as}
 use Rattle.gen1_outcomes.proofs.ways.Ways.begin.Goals as goal
 
@@ -32,7 +31,7 @@ returns-in-Some-clause-reaches c =
     λ name is nodes rests.
     let way =
     way_as _ _ _ _ _ nodes (λ (log : List Entry). Unit {0}) c.new-explorer.ensures.script
-    (c.new-explorer.ensures.noting ∙ noting_is _ 0 _ c.args.nodes.now c.of.ensures.left c.of.ensures.nodes) (sym (rests (sym (same ∙ is))))
+    (c.new-explorer.ensures.noting ∙ c.of.ensures.nodes) (sym (rests (sym (same ∙ is))))
     (logged_by _ _ start last c.new-explorer.ensures.log c.draws_a_stream.ensures c.begin-rest.ensures.steps, tt)
     in
     record {
@@ -78,5 +77,5 @@ returns-in-None-clause-options c =
     let way = logged_by _ _ start last c.new-explorer.ensures.log c.draws_a_stream.ensures c.begin-rest.ensures.steps in
     let same = same_place _ _ start last c.begin-rest.ensures.steps ∙ c.new-explorer.ensures.same_reference ∙ c.of.ensures.same_reference in
     ap (λ (x : Nodes). x.options) (c.nodes-1.given.1 (sym same)) ∙ notes_keep way.log _ _ way.noted
-    ∙ ap (λ (x : Noting). x.nodes.options) (c.new-explorer.ensures.noting ∙ noting_is _ 0 _ c.args.nodes.now c.of.ensures.left c.of.ensures.nodes)
+    ∙ ap (λ (x : Nodes). x.options) (c.new-explorer.ensures.noting ∙ c.of.ensures.nodes)
     ∙ c.requires.options

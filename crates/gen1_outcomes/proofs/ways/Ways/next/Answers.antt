@@ -8,7 +8,7 @@ use Rattle.gen1_outcomes.specs.declared.log.Entry.{Entry}
 use Rattle.gen1_outcomes.specs.declared.nodes.Nodes.{Nodes}
 use Rattle.gen1_outcomes.specs.Nodes.{AllDone, IsChance, LeadsOn}
 use Rattle.gen1_outcomes.specs.Following.{Leads, PlaysNext, Walk}
-use Rattle.gen1_outcomes.proofs.Logs.{leads_of, logged_by, noting_is, same_place}
+use Rattle.gen1_outcomes.proofs.Logs.{leads_of, logged_by, same_place}
 use Rattle.gen1_outcomes.proofs.Offered.{can_follow, leads_by, way_as}
 use Rattle.gen1_outcomes.proofs.Walking.{goes_past}
 use Rattle.gen1_outcomes.proofs.ways.Ways.next.Goals as goal
@@ -29,7 +29,7 @@ returns-in-Some-clause-next g c =
     λ name is nodes chance rests leads done.
     let way =
     way_as _ _ _ _ _ nodes (λ (log : List Entry). (s : State) → Stands inside.start s → AreOffered s inside.one inside.two → Leads s inside.one inside.two log parts events)
-    c.new-explorer.ensures.script (c.new-explorer.ensures.noting ∙ noting_is _ 0 _ inside.nodes c.of.ensures.left c.of.ensures.nodes)
+    c.new-explorer.ensures.script (c.new-explorer.ensures.noting ∙ c.of.ensures.nodes)
     (sym (rests (sym (same ∙ is)))) (
       logged_by _ _ start last c.new-explorer.ensures.log c.draws_a_stream.ensures c.play.ensures.steps,
       λ s h.

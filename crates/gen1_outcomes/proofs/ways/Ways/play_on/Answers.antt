@@ -11,7 +11,7 @@ use Rattle.gen1_outcomes.specs.Following.{Leads, Walk}
 use Rattle.gen1_outcomes.specs.Listing.{untold}
 use Rattle.gen1_outcomes.specs.Logs.{place_at}
 use Rattle.gen1_outcomes.specs.Middles.{EndsAt, LeadsFrom, PlaysOn}
-use Rattle.gen1_outcomes.proofs.Logs.{leads_of, logged_by, notes_keep, noting_is, same_place}
+use Rattle.gen1_outcomes.proofs.Logs.{leads_of, logged_by, notes_keep, same_place}
 use Rattle.gen1_outcomes.proofs.Offered.{leads_by, way_as}
 use Rattle.gen1_outcomes.proofs.ways.Ways.play_on.Goals as goal
 
@@ -28,7 +28,7 @@ returns-in-Some-clause-plays c =
     λ name is nodes rests.
     let way =
     way_as _ _ _ _ _ nodes (λ (log : List Entry). (s : State) → Stands w.start s → AreOffered s w.one w.two → EndsAt s middle.bytes c.in-Some.rest log parts)
-    c.new-explorer.ensures.script (c.new-explorer.ensures.noting ∙ noting_is _ 0 _ c.args.nodes.now c.of.ensures.left c.of.ensures.nodes)
+    c.new-explorer.ensures.script (c.new-explorer.ensures.noting ∙ c.of.ensures.nodes)
     (sym (rests (sym (same ∙ is)))) (
       logged_by _ _ start last c.new-explorer.ensures.log c.draws_a_stream.ensures c.end.ensures.steps,
       λ s h o stream agrees p at on begun.
@@ -64,7 +64,7 @@ returns-in-None-clause-plays c =
     λ name is nodes rests.
     let way =
     way_as _ _ _ _ _ nodes (λ (log : List Entry). (s : State) → Stands w.start s → AreOffered s w.one w.two → Leads s w.one w.two log parts untold)
-    c.new-explorer.ensures.script (c.new-explorer.ensures.noting ∙ noting_is _ 0 _ c.args.nodes.now c.of.ensures.left c.of.ensures.nodes)
+    c.new-explorer.ensures.script (c.new-explorer.ensures.noting ∙ c.of.ensures.nodes)
     (sym (rests (sym (same ∙ is)))) (
       logged_by _ _ start last c.new-explorer.ensures.log c.draws_a_stream.ensures c.play.ensures.steps,
       λ s.
