@@ -204,8 +204,9 @@ def choose_first(browser, side=1):
     """Presses the first choice of a side, and waits for the next choices or the end; returns whether the battle continues."""
     before = browser.run(UPDATES)
     browser.click(f"#play-choices-{side} [data-choice]")
-    browser.wait(f"{UPDATES} > {before}")
-    return browser.run(f"return document.querySelectorAll('#play-choices-{side} [data-choice]').length")
+    choices = f"document.querySelectorAll('#play-choices-{side} [data-choice]').length"
+    browser.wait(f"{UPDATES} > {before} && ({choices} > 0 || !document.getElementById('play-rematch').hidden)")
+    return browser.run(f"return {choices}")
 
 
 def told_to(side, lines):
