@@ -76,7 +76,7 @@ counts t o old new n sum each =
     in
     omega (arith, sum, both, size-is old, size-is new)
 
--- A draw has the bytes that it may have: in its class, left, or neither. What is left of bytes that are alike is left of all of them.
+-- A byte that a draw may have is in its class, left, or neither. If one of two alike bytes is left, the other one is too.
 pub record IsFair (a : Asked) (node : Node) : Type 0 where
   pub asks : CanAsk a
   pub total : node.total ≡ count_of (may_of a)
@@ -141,7 +141,7 @@ pub full_new : (a : Asked) (may : ByteSet) (node : Node) → IsNewFor a may node
 full_new a may node new b lt is off =
     new.rest b lt ∙ ap (λ (o : Bool). cond o 0 (has may b)) off ∙ new.set b lt ∙ ap (λ (t : Bool). cond t 1 0) is
 
--- A draw that goes on.
+-- A draw that takes its next class.
 module _ (a : Asked) (old new : Node) (fair : IsFair a old) (goes : GoesOn old new) where
   goes_alike : (x y : ℕ) → alike_in old.damage_classes old.look x y ≡ alike_in new.damage_classes new.look x y
   goes_alike x y = let takes = goes.takes in rw (takes.look, takes.classes) refl

@@ -379,7 +379,7 @@ levels_as P Q hits meets nodes Leaf Now from leaf (suc r) j whole amount h =
 
 -- The next way.
 
--- The draw that goes on has its old class finished.
+-- The old class of the draw that takes its next one is finished.
 level_next : (Q : Type 0) (hits : Stream → Bool) (meets : Field → Bool) (nodes : Nodes) (j : ℕ) (new : Node) {Deeper : ℕ → ℕ → Type 0} {whole amount : ℕ} (More : ℕ → ℕ → Type 0)
     → j < length nodes.list → IsFair (asked_at nodes j) (node_at nodes j) → GoesOn (node_at nodes j) new
     → (h : Level (asked_at nodes j) (node_at nodes j) meets (LeadsBy Q hits meets nodes j) Deeper whole amount) → IsClosed Q hits meets nodes (suc j) h.each h.deeper
@@ -434,7 +434,7 @@ leads_here Q hits meets old new leads j here b tree by q s is on at_b =
     ap (λ (p : ℕ). meets (leads_to tree s p).field) place
     ∙ by q s is (bytes_as leads.place old new s (next_same old new leads) j (omega (arith, here)) on) (sym byte ∙ at_b)
 
--- Up to the draw that goes on they are as they were, and its class is gone through.
+-- Up to the draw that takes its next class they are as they were, and its old class is gone through.
 pub levels_next : (Q : Type 0) (hits : Stream → Bool) (meets : Field → Bool) (old new : Nodes) → old.len ≤ length old.list → AreFair old → (leads : LeadsOn old new)
     → (r n j : ℕ) → j + r ≡ leads.place → j + n ≡ old.len → (whole amount : ℕ) → Levels Q hits meets old (IsClosed Q hits meets old) n j whole amount
     → Levels Q hits meets new IsFresh (suc r) j whole amount

@@ -155,7 +155,7 @@ run_below n d e p q first last some more le most at begins is =
 pub first_most : (n d p first : ℕ) → 0 < n → 0 < d → Begins n d (class_of n d p) first → first ≤ p
 first_most n d p first some more begins = begins-on n d p (class_of n d p) first some more begins (omega arith)
 
--- What is alike to a byte is alike to each byte of its class.
+-- Two bytes of one class are alike to the same bytes.
 pub same_class : (n : ℕ) (look : Look) (first byte x m : ℕ) → cond (alike_in n look first byte) m 0 ≡ 1 → alike_in n look first x ≡ alike_in n look byte x
 same_class n look first byte x m is =
     elim (true_or (alike_in n look first byte)) [

@@ -602,7 +602,7 @@ pub alike_each : (w : Walk) (s : State) (battle : Parts) (passes : Field → Boo
 alike_each w s battle passes middles count xs of test each k past rest lt kept =
     alike_listed w s battle passes (get_or middles.list k past) rest count xs test kept (each k past lt s of.offers)
 
--- The tree of a kept position tells which battle follows from it.
+-- The tree of a kept position leads to the battle that follows from it.
 tree_tells : (w : Walk) (s : State) (battle : Parts) (passes : Field → Bool) (bytes : List ℕ) (rest : Rest) → IsTestOf s battle passes → (h : HasRest s passes bytes rest)
     → IsTreeFrom s w.one w.two bytes (Some rest) passes battle h.tree
 tree_tells w s battle passes bytes rest test h stream is parts follows =
