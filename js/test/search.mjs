@@ -66,7 +66,7 @@ thrown(() => search.think(new Uint8Array(7)), ArgumentError, /7 bytes/);
 equal([search.levelNodes(1), search.levelNodes(2), search.levelNodes(3), search.levelNodes(4),
   search.levelNodes(
       5)].join(),
-    "200,1000,6000,35000,200000");
+    "200,600,1500,6000,30000");
 equal(search.think(host.player.bytes, {level: 1, seed: 3}).nodes, 200);
 
 const times = [1, 2, 3].map((turn) => {

@@ -42,7 +42,7 @@ def gengar():
 def test_a_choice_that_loses_is_not_made(gengar):
     thought = search.think(gengar, level=2)
     assert thought.choices[0].words == "Thunderbolt" and thought.best is Choice.MOVE_2
-    assert thought.nodes == search.level_nodes(2) == 1000
+    assert thought.nodes == search.level_nodes(2) == 600
     assert sum(it.probability for it in thought.choices) == pytest.approx(1)
     assert thought.choices[0].line[0][0] == "Thunderbolt"
 

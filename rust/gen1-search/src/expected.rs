@@ -1,6 +1,6 @@
 //! What is expected of choices: the damage of moves, by the usual formula without its rounding, and how often a search comes to make each
 //! choice. A search needs both for many positions, so they are quick and not exact; `Battle::odds` is exact.
-use crate::leaf::{MatchUps, Seen, conditions, number};
+use crate::leaf::{Lives, MatchUps, conditions, number};
 use gen1::layout::{ACTIVE, MEMBER, SIDE, active, member};
 use gen1::{
     Battle, Choice, Conditions, Effect, Element, MoveId, Offered, Side, Species, effectiveness,
@@ -23,16 +23,19 @@ pub const WEIGHTS: [f32; COUNT] = [
 /// Where the level is in a member (docs/LAYOUT.md).
 const LEVEL: usize = 1;
 /// Where the stats are in a member.
-const STATS: usize = 6;
+pub(crate) const STATS: usize = 6;
 
 /// The mean of the factors that the damage draws.
 const MEAN: f32 = 0.925;
 
 /// From this share on a move is taken to take all of the foe's HP.
-const NEARLY_ALL: f32 = 0.9;
+pub(crate) const NEARLY_ALL: f32 = 0.9;
 
 /// One hit in five is taken to be critical.
 const CRITICAL: f32 = 1.2;
+
+/// What the usual formula adds, whatever the stats are.
+pub(crate) const LEAST: f32 = 2.0;
 
 /// A member with the stats, types and conditions that count for damage.
 #[derive(Clone, Copy)]
@@ -91,24 +94,20 @@ impl<'a> Fighter<'a> {
 
     /// The expected damage of a move to a foe, a miss counting as 0; `None` if it is no move of damage.
     fn damage(self, foe: Fighter<'_>, id: MoveId) -> Option<f32> {
-        let hit = match id.effect() {
-            Effect::NeverMisses => 1.0,
-            _ => f32::from(id.accuracy_byte()) / 256.0,
+        let base = match Damage::of(self.member, id)? {
+            Damage::Fixed(damage) => return Some(damage),
+            Damage::OfHp(share) => return Some(share * foe.hp()),
+            Damage::Usual { base } => base,
         };
-        let damage = match id.effect() {
-            Effect::FixedDamage => f32::from(self.member[LEVEL]),
-            Effect::SuperFang => foe.hp() / 2.0,
-            Effect::OneHitKnockOut | Effect::Counter | Effect::Bide => 0.0,
-            Effect::DreamEater if !foe.is_asleep() => 0.0,
-            _ if id.power() < 2 => return None,
-            _ => self.usual_damage(foe, id),
-        };
-        Some(damage * hit)
+        if id.effect() == Effect::DreamEater && !foe.is_asleep() {
+            return Some(0.0);
+        }
+        let base = base * self.quotient(foe, id.kind()) + LEAST;
+        Some(base * self.factor(foe, id))
     }
 
-    /// The mean damage of a hit by the formula.
-    fn usual_damage(self, foe: Fighter<'_>, id: MoveId) -> f32 {
-        let kind = id.kind();
+    /// The user's attacking stat over the foe's defending one, halved by a screen.
+    fn quotient(self, foe: Fighter<'_>, kind: Element) -> f32 {
         let (attack, defense, screen) = if kind.is_special() {
             (3, 3, Conditions::LIGHT_SCREEN)
         } else {
@@ -116,19 +115,61 @@ impl<'a> Fighter<'a> {
         };
         let screened = foe.conditions & screen.bits() != 0;
         let screen = if screened { 0.5 } else { 1.0 };
-        let quotient = f32::from(self.stat(attack)) / f32::from(foe.stat(defense).max(1));
-        let level = f32::from(self.member[LEVEL]);
-        let power = f32::from(id.power()) * times(id.effect());
-        let base = (0.4 * level + 2.0) * power * quotient * screen / 50.0 + 2.0;
-        base * self.factor(foe, kind) * MEAN * CRITICAL
+        screen * f32::from(self.stat(attack)) / f32::from(foe.stat(defense).max(1))
     }
 
-    /// The factor of a move's type, for its user's types and the foe's.
-    fn factor(self, foe: Fighter<'_>, kind: Element) -> f32 {
+    /// What multiplies the damage of a move: its type's factor, for its user's types and the foe's, and the means of what is drawn.
+    fn factor(self, foe: Fighter<'_>, id: MoveId) -> f32 {
         let [first, second] = foe.types;
-        let (one, two) = effectiveness(kind, first, second);
-        let is_own = self.types.contains(&kind);
-        f32::from(one) * f32::from(two) * if is_own { 0.015 } else { 0.01 }
+        let (one, two) = effectiveness(id.kind(), first, second);
+        let is_own = self.types.contains(&id.kind());
+        let own = if is_own { 0.015 } else { 0.01 };
+        f32::from(one) * f32::from(two) * own * MEAN * CRITICAL * hits(id)
+    }
+}
+
+/// The expected damage of a move, a miss counting as 0, as far as it depends on its user alone.
+#[derive(Clone, Copy)]
+pub(crate) enum Damage {
+    /// Always so much.
+    Fixed(f32),
+    /// A share of the foe's HP.
+    OfHp(f32),
+    /// By the usual formula: `base` times the quotient of the stats, and [`LEAST`] more, times a factor by the foe's types.
+    Usual { base: f32 },
+}
+
+impl Damage {
+    /// The damage of a member's move; `None` if the move isn't one of damage.
+    pub fn of(member: &[u8], id: MoveId) -> Option<Self> {
+        let level = f32::from(member[LEVEL]);
+        match id.effect() {
+            Effect::FixedDamage => Some(Damage::Fixed(level * hits(id))),
+            Effect::SuperFang => Some(Damage::OfHp(hits(id) / 2.0)),
+            Effect::OneHitKnockOut | Effect::Counter | Effect::Bide => Some(Damage::Fixed(0.0)),
+            _ if id.power() < 2 => None,
+            effect => {
+                let power = f32::from(id.power()) * times(effect);
+                let base = (0.4 * level + 2.0) * power / 50.0;
+                Some(Damage::Usual { base })
+            }
+        }
+    }
+}
+
+/// How probably a move hits.
+fn hits(id: MoveId) -> f32 {
+    match id.effect() {
+        Effect::NeverMisses => 1.0,
+        _ => f32::from(id.accuracy_byte()) / 256.0,
+    }
+}
+
+/// The factor of a move of the usual formula, of a member against a foe as both come out.
+pub(crate) fn fresh_factor(own: &[u8], foe: &[u8], id: MoveId) -> f32 {
+    match (Fighter::fresh(own), Fighter::fresh(foe)) {
+        (Some(own), Some(foe)) => own.factor(foe, id),
+        _ => 0.0,
     }
 }
 
@@ -164,7 +205,7 @@ fn shares(battle: &Battle) -> [[Option<f32>; 4]; 2] {
 pub struct Scene<'a> {
     bytes: &'a [u8; 384],
     match_ups: &'a MatchUps,
-    seen: [Seen; 2],
+    seen: [Lives; 2],
     shares: [[Option<f32>; 4]; 2],
 }
 
@@ -182,7 +223,7 @@ impl<'a> Scene<'a> {
         Scene {
             bytes,
             match_ups,
-            seen: Side::BOTH.map(|it| Seen::of(&bytes[layout::side(it)..][..SIDE])),
+            seen: Lives::both(battle),
             shares: shares(battle),
         }
     }
@@ -206,15 +247,6 @@ impl<'a> Scene<'a> {
             all[at] += value;
         });
         all
-    }
-
-    /// How probable a choice is before it was tried, as a weight.
-    pub(crate) fn weight(&self, side: Side, choice: Offered) -> f32 {
-        let mut score = 0.0;
-        self.tell(index(side), choice.choice(), &mut |at, value| {
-            score += WEIGHTS[at] * value;
-        });
-        exponential(score)
     }
 
     /// Tells the features of a choice that are not 0.
@@ -310,12 +342,12 @@ impl<'a> Scene<'a> {
         to: usize,
         tell: &mut impl FnMut(usize, f32),
     ) {
-        let next = self.seen[side].members[to];
+        let next = &self.seen[side];
         tell(24, 1.0);
         tell(25, self.match_up(side, to, foe));
         tell(26, self.match_up(side, own, foe));
-        tell(27, next.share);
-        tell(28, one_if(next.is_kept()));
+        tell(27, next.shares[to]);
+        tell(28, one_if(next.is_idle(to)));
         tell(29, self.hit(1 - side, foe, to));
         tell(30, one_if(self.seen[1 - side].is_kept()));
         tell(31, one_if(self.seen[side].is_kept()));
@@ -326,11 +358,11 @@ impl<'a> Scene<'a> {
 
     /// A member that comes after a fall.
     fn tell_next(&self, side: usize, foe: usize, to: usize, tell: &mut impl FnMut(usize, f32)) {
-        let next = self.seen[side].members[to];
+        let next = &self.seen[side];
         let speed = number(self.member(side, to), STATS + 4);
-        tell(34, next.share);
+        tell(34, next.shares[to]);
         tell(35, self.match_up(side, to, foe));
-        tell(36, one_if(next.is_kept()));
+        tell(36, one_if(next.is_idle(to)));
         tell(37, one_if(speed > self.seen[1 - side].speed));
         tell(38, self.hit(side, to, foe));
         tell(39, self.hit(1 - side, foe, to));
@@ -370,19 +402,14 @@ impl<'a> Scene<'a> {
     }
 
     fn match_up(&self, side: usize, own: usize, foe: usize) -> f32 {
-        let [own, foe] = [
-            (own, self.seen[side].members[own]),
-            (foe, self.seen[1 - side].members[foe]),
-        ];
-        self.match_ups.of_pair(side, own, foe)
+        let lives = [&self.seen[side], &self.seen[1 - side]];
+        self.match_ups.with(side, foe, lives)[own]
     }
 
     /// The share of the HP of a foe that a member's best move is expected to take.
     fn hit(&self, side: usize, own: usize, foe: usize) -> f32 {
-        let by = self.seen[side].members[own];
-        self.match_ups
-            .hit(side, own, (foe, self.seen[1 - side].members[foe]))
-            * by.acts
+        let hit = self.match_ups.hit(side, own, (foe, &self.seen[1 - side]));
+        hit * self.seen[side].acts[own]
     }
 }
 
@@ -393,12 +420,13 @@ fn index(side: Side) -> usize {
     }
 }
 
-fn one_if(holds: bool) -> f32 {
+pub(crate) fn one_if(holds: bool) -> f32 {
     f32::from(u8::from(holds))
 }
 
-/// The number e to a power, at most 3 % off for powers from -4 to 4. There is none without std.
-fn exponential(power: f32) -> f32 {
+/// The number e to a power, at most 3 % off for powers from -4 to 4. There is none without std. Inlined, several are computed at once.
+#[inline(always)]
+pub(crate) fn exponential(power: f32) -> f32 {
     let mut factor = 1.0 + power.clamp(-20.0, 20.0) / 256.0;
     for _ in 0..8 {
         factor *= factor;

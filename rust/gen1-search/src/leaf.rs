@@ -44,7 +44,12 @@ pub fn features(battle: &Battle, match_ups: &MatchUps) -> [f64; COUNT] {
 /// For each side, member and foe: the share of the foe's maximum HP that the member's best move is expected to take as both come out. It
 /// stays nearly the same through a battle, so a search computes it once.
 #[derive(Clone, Debug)]
-pub struct MatchUps([[[f32; 6]; 6]; 2]);
+pub struct MatchUps {
+    /// By side, member and foe.
+    dealt: [[[f32; 6]; 6]; 2],
+    /// These shares by side, foe and member.
+    dealt_to: [[[f32; 6]; 6]; 2],
+}
 
 impl MatchUps {
     /// The match-ups of the members of a battle.
@@ -58,144 +63,194 @@ impl MatchUps {
                 core::array::from_fn(best)
             })
         };
-        MatchUps(Side::BOTH.map(of_side))
+        let dealt: [[[f32; 6]; 6]; 2] = Side::BOTH.map(of_side);
+        let dealt_to = dealt
+            .map(|it| core::array::from_fn(|foe| core::array::from_fn(|own: usize| it[own][foe])));
+        MatchUps { dealt, dealt_to }
     }
 
     /// The sum of the match-ups of all pairs that live, over the number of the smaller side's members. A match-up is near 1 if side 1's
     /// member knocks out the other long before that knocks it out, and near -1 in the reverse case.
     fn balance(&self, one: &Seen, two: &Seen) -> f32 {
         let mut sum = 0.0;
-        for own in one.living() {
-            for foe in two.living() {
-                sum += self.of_pair(0, own, foe);
-            }
+        for foe in (0..6).filter(|foe| two.lives.shares[*foe] > 0.0) {
+            let all = self.with(0, foe, [&one.lives, &two.lives]);
+            let living = all.into_iter().zip(one.lives.shares);
+            sum += living
+                .map(|(it, share)| if share > 0.0 { it } else { 0.0 })
+                .sum::<f32>();
         }
         sum / one.found[0].min(two.found[0]).max(1.0)
     }
 
-    /// The match-up of a side's member and a foe, with their indices.
-    pub(crate) fn of_pair(&self, side: usize, own: (usize, Living), foe: (usize, Living)) -> f32 {
+    /// The match-ups of each of a side's members and a foe, with the lives of the side and of the foe's. A member that has fallen has none.
+    #[inline(always)]
+    pub(crate) fn with(&self, side: usize, foe: usize, [own, other]: [&Lives; 2]) -> [f32; 6] {
         /// What a member without damage is taken to deal.
         const LEAST: f32 = 0.02;
-        let ((own, first), (foe, second)) = (own, foe);
-        let [own, foe] = [
-            self.0[side][own][foe] * first.acts,
-            self.0[1 - side][foe][own] * second.acts,
-        ];
-        let own = (own + LEAST * second.share) * first.share;
-        let foe = (foe + LEAST * first.share) * second.share;
-        (own - foe) / (own + foe)
+        let (share, acts) = (other.shares[foe], other.acts[foe]);
+        let (deals, takes) = (&self.dealt_to[side][foe], &self.dealt[1 - side][foe]);
+        each(|at| {
+            let deals = (deals[at] * own.acts[at] + LEAST * share) * own.shares[at];
+            let takes = (takes[at] * acts + LEAST * own.shares[at]) * share;
+            (deals - takes) / (deals + takes)
+        })
     }
 
-    /// The share of a foe's HP that the best move of a side's member is expected to take, at most 1.
-    pub(crate) fn hit(&self, side: usize, own: usize, (foe, living): (usize, Living)) -> f32 {
-        (self.0[side][own][foe] / living.share).min(1.0)
+    /// The share of the HP of each foe that the best move of a side's member is expected to take, at most 1.
+    #[inline(always)]
+    pub(crate) fn hits(&self, side: usize, own: usize, foes: &Lives) -> [f32; 6] {
+        let dealt = &self.dealt[side][own];
+        each(|foe| (dealt[foe] / foes.shares[foe]).min(1.0))
+    }
+
+    /// The share of one foe's HP that the best move of a side's member is expected to take, at most 1.
+    pub(crate) fn hit(&self, side: usize, own: usize, (foe, foes): (usize, &Lives)) -> f32 {
+        (self.dealt[side][own][foe] / foes.shares[foe]).min(1.0)
     }
 
     /// The share of the other's HP that the faster active member is expected to take, below 0 if it is side 2's.
     fn first_hit(&self, one: &Seen, two: &Seen) -> f32 {
-        let (Some(own), Some(foe)) = (one.out, two.out) else {
+        let (Some(own), Some(foe)) = (one.lives.out, two.lives.out) else {
             return 0.0;
         };
-        match one.speed.cmp(&two.speed) {
-            Ordering::Greater => self.hit(0, own, (foe, two.members[foe])) * one.acts_next,
-            Ordering::Less => -self.hit(1, foe, (own, one.members[own])) * two.acts_next,
+        match one.lives.speed.cmp(&two.lives.speed) {
+            Ordering::Greater => self.hit(0, own, (foe, &two.lives)) * one.acts_next,
+            Ordering::Less => -self.hit(1, foe, (own, &one.lives)) * two.acts_next,
             Ordering::Equal => 0.0,
         }
     }
 }
 
-/// A member's HP as a share of its maximum, and how much of its turns it acts in.
-#[derive(Clone, Copy, Default)]
-pub(crate) struct Living {
-    pub share: f32,
-    pub acts: f32,
+/// How the members of a side live.
+#[derive(Clone, Copy)]
+pub(crate) struct Lives {
+    /// The HP of each as a share of its maximum.
+    pub shares: [f32; 6],
+    /// How much of its turns each acts in.
+    pub acts: [f32; 6],
+    /// The active member, if it lives, and its Speed.
+    pub out: Option<usize>,
+    pub speed: u16,
+    /// The index of the active member.
+    active: usize,
 }
 
-impl Living {
-    /// Whether it sleeps or is frozen.
-    pub fn is_kept(self) -> bool {
-        self.acts < 0.75
+impl Lives {
+    /// The members of a side with these bytes.
+    pub fn of(bytes: &[u8]) -> Self {
+        let mut lives = Lives {
+            shares: [0.0; 6],
+            acts: [0.0; 6],
+            out: None,
+            speed: 0,
+            active: 0,
+        };
+        for at in 0..6 {
+            lives.look(at, bytes);
+        }
+        lives.update(bytes);
+        lives
+    }
+
+    /// Both sides of a battle.
+    pub fn both(battle: &Battle) -> [Self; 2] {
+        let bytes = battle.as_bytes();
+        Side::BOTH.map(|it| Lives::of(&bytes[layout::side(it)..][..SIDE]))
+    }
+
+    /// Looks at what an update may have changed, which is only at the member that was out and the one that is.
+    pub fn update(&mut self, bytes: &[u8]) {
+        let block = &bytes[ACTIVE..SIDE];
+        let place = usize::from(block[active::PLACE]);
+        self.look(self.active, bytes);
+        self.active = place.clamp(1, 6) - 1;
+        self.look(self.active, bytes);
+        let is_out = place > 0 && self.shares[self.active] > 0.0;
+        self.out = is_out.then_some(self.active);
+        self.speed = number(block, active::STAGES + 10);
+    }
+
+    fn look(&mut self, at: usize, bytes: &[u8]) {
+        let bytes = &bytes[MEMBER * at..][..MEMBER];
+        let hp = number(bytes, member::HP);
+        (self.shares[at], self.acts[at]) = (0.0, 0.0);
+        if hp > 0 {
+            self.shares[at] = f32::from(hp) / f32::from(number(bytes, member::MAX_HP));
+            self.acts[at] = match bytes[member::STATUS] {
+                1..8 => 0.5,
+                32 => 0.1,
+                64 => 0.75,
+                _ => 1.0,
+            };
+        }
+    }
+
+    /// Whether a member sleeps or is frozen, or has fallen.
+    #[inline(always)]
+    pub fn is_idle(&self, at: usize) -> bool {
+        self.acts[at] < 0.75
+    }
+
+    /// The HP of the active member as a share; 0 if it has fallen.
+    pub fn share(&self) -> f32 {
+        self.out.map_or(0.0, |at| self.shares[at])
+    }
+
+    /// Whether the active member lives, and sleeps or is frozen.
+    pub fn is_kept(&self) -> bool {
+        self.out.is_some_and(|at| self.is_idle(at))
     }
 }
 
 /// What counts of one side.
 #[derive(Clone, Copy)]
-pub(crate) struct Seen {
+struct Seen {
     found: [f32; COUNT],
-    pub members: [Living; 6],
-    /// The active member, if it lives, its Speed, and how probably it acts in its next turn.
-    pub out: Option<usize>,
-    pub speed: u16,
+    lives: Lives,
+    /// How probably the active member acts in its next turn.
     acts_next: f32,
 }
 
 impl Seen {
-    pub fn of(bytes: &[u8]) -> Self {
-        let (members, block) = bytes.split_at(ACTIVE);
+    fn of(bytes: &[u8]) -> Self {
         let mut seen = Seen {
             found: [0.0; COUNT],
-            members: [Living::default(); 6],
-            out: None,
-            speed: number(block, active::STAGES + 10),
+            lives: Lives::of(bytes),
             acts_next: 0.0,
         };
-        let out = usize::from(block[active::PLACE]);
-        for (at, bytes) in members.chunks_exact(MEMBER).enumerate() {
-            let hp = number(bytes, member::HP);
-            if hp > 0 {
-                seen.add(at, bytes, hp);
+        let (members, block) = bytes.split_at(ACTIVE);
+        let lives = seen.lives;
+        for (bytes, share) in members.chunks_exact(MEMBER).zip(lives.shares) {
+            if share > 0.0 {
+                seen.add(bytes, share);
             }
-            if hp > 0 && at + 1 == out {
-                seen.out = Some(at);
-                seen.add_active(at, block);
-            }
+        }
+        if let Some(at) = lives.out {
+            seen.add_active(at, block);
         }
         seen
     }
 
-    /// The HP of the active member as a share; 0 if it has fallen.
-    pub fn share(&self) -> f32 {
-        self.out.map_or(0.0, |at| self.members[at].share)
-    }
-
-    /// Whether the active member lives, and sleeps or is frozen.
-    pub fn is_kept(&self) -> bool {
-        self.out.is_some_and(|at| self.members[at].is_kept())
-    }
-
-    /// The members that live.
-    fn living(&self) -> impl Iterator<Item = (usize, Living)> + '_ {
-        let all = self.members.iter().copied().enumerate();
-        all.filter(|(_, it)| it.share > 0.0)
-    }
-
     /// Adds a member that lives.
-    fn add(&mut self, at: usize, bytes: &[u8], hp: u16) {
-        let most = f32::from(number(bytes, member::MAX_HP));
-        let share = f32::from(hp) / most;
+    fn add(&mut self, bytes: &[u8], share: f32) {
         self.found[0] += 1.0;
         self.found[1] += share;
-        let (status, acts) = match bytes[member::STATUS] {
-            0 => (None, 1.0),
-            1..8 => (Some(2), 0.5),
-            32 => (Some(3), 0.1),
-            64 => (Some(4), 0.75),
-            16 => (Some(5), 1.0),
-            _ => (Some(6), 1.0),
+        let status = match bytes[member::STATUS] {
+            0 => None,
+            1..8 => Some(2),
+            32 => Some(3),
+            64 => Some(4),
+            16 => Some(5),
+            _ => Some(6),
         };
         if let Some(status) = status {
             self.found[status] += 1.0;
         }
-        let stats = [
-            most,
-            f32::from(number(bytes, DEFENSE)),
-            f32::from(number(bytes, SPEED)),
-        ];
+        let stats = [member::MAX_HP, DEFENSE, SPEED].map(|at| f32::from(number(bytes, at)));
         for (sum, stat) in self.found[20..].iter_mut().zip(stats) {
             *sum += share * stat / 300.0;
         }
-        self.members[at] = Living { share, acts };
     }
 
     /// Adds what counts of the active member only.
@@ -215,20 +270,31 @@ impl Seen {
         for (at, which) in SHOWN {
             self.found[at] = f32::from(u8::from(conditions & which.bits() != 0));
         }
-        let out = self.members[at];
-        self.found[19] = out.share;
+        self.found[19] = self.lives.shares[at];
         // A member that sleeps or is frozen doesn't act, and one that wakes loses that turn.
-        let is_kept = out.is_kept() || conditions & Conditions::RECHARGE.bits() != 0;
-        self.acts_next = if is_kept { 0.0 } else { out.acts };
+        let is_kept = self.lives.is_idle(at) || conditions & Conditions::RECHARGE.bits() != 0;
+        self.acts_next = if is_kept { 0.0 } else { self.lives.acts[at] };
     }
 }
 
+/// The values of a function at the first numbers. Inlined, they are computed at once where there are such instructions.
+#[inline(always)]
+pub(crate) fn each<const COUNT: usize>(of: impl Fn(usize) -> f32) -> [f32; COUNT] {
+    let mut all = [0.0; COUNT];
+    for (at, value) in all.iter_mut().enumerate() {
+        *value = of(at);
+    }
+    all
+}
+
 /// The number of two bytes.
+#[inline(always)]
 pub(crate) fn number(bytes: &[u8], at: usize) -> u16 {
     u16::from_le_bytes([bytes[at], bytes[at + 1]])
 }
 
 /// The bits of the conditions of an active block.
+#[inline(always)]
 pub(crate) fn conditions(block: &[u8]) -> u32 {
     let low = u32::from(number(block, active::CONDITIONS));
     low | u32::from(number(block, active::CONDITIONS + 2)) << 16

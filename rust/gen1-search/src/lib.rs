@@ -5,7 +5,7 @@
 //! | values of positions with few members, between two bounds | [`Solver`], [`SolveOptions`], [`Interval`] |
 //! | a choice from what one side knows | [`think`], [`ThinkOptions`], [`Thought`] |
 //! | what the foe may have | [`Prior`] |
-//! | the value at the leaf of a search | [`leaf`] |
+//! | the value at the leaf of a search | [`leaf`], [`playout`] |
 //! | how probable a choice is before it was tried | [`expected`] |
 //! | one game of choices made at once | [`matrix`] |
 //! | battles between bots, and their ratings | `league` |
@@ -30,6 +30,7 @@ pub mod leaf;
 #[cfg(feature = "league")]
 pub mod league;
 pub mod matrix;
+pub mod playout;
 mod positions;
 mod prior;
 mod solve;

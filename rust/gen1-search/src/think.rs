@@ -9,7 +9,7 @@ use core::fmt;
 use gen1::{Battle, Choice, Choices, Guess, GuessFault, MoveId, Player, Side, TeamRefusal};
 
 /// The nodes of the levels of play, 1 to 5.
-pub const LEVELS: [u64; 5] = [200, 1_000, 6_000, 35_000, 200_000];
+pub const LEVELS: [u64; 5] = [200, 600, 1_500, 6_000, 30_000];
 
 /// How many updates a line of play shows.
 const SHOWN: usize = 4;
@@ -22,7 +22,7 @@ const TRIES: usize = 64;
 #[derive(Clone, Copy)]
 #[non_exhaustive]
 pub struct ThinkOptions<'a> {
-    /// How many nodes the search makes at most, over all trees. The default is 20,000.
+    /// How many nodes the search makes at most, over all trees. The default is 6,000.
     pub nodes: u64,
     /// How long it lasts at most. The default is `None`. A search that ends by time is not repeatable.
     #[cfg(feature = "std")]
@@ -40,7 +40,7 @@ pub struct ThinkOptions<'a> {
 impl Default for ThinkOptions<'_> {
     fn default() -> Self {
         ThinkOptions {
-            nodes: 20_000,
+            nodes: 6_000,
             #[cfg(feature = "std")]
             time: None,
             seed: 0,
@@ -157,9 +157,9 @@ impl Thought {
 ///
 /// The foe's team is guessed from the prior ([`Prior::guess`]), and [`Battle::from_player`] makes battles that fit. Each tree plays passes
 /// through them: both sides choose at once, each by what its own choices got, each pass draws its own numbers, and ends at a position that
-/// is new to the tree with its leaf value ([`leaf::value`]). At the root the side's sums are those of all guesses together, so its strategy
-/// does not depend on what it doesn't know. Choices that searches often make are tried first ([`expected`](crate::expected)). The strategies of the trees are
-/// averaged.
+/// is new to the tree with its leaf value ([`Policy::value`](crate::playout::Policy::value)). At the root the side's sums are those of all
+/// guesses together, so its strategy does not depend on what it doesn't know. Choices that searches often make are tried first
+/// ([`expected`](crate::expected)). The strategies of the trees are averaged.
 ///
 /// ```
 /// use gen1::{Battle, Choice, Player, Side, Team, Teller, member};

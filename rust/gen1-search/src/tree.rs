@@ -5,9 +5,9 @@
 //! and not for each pair, so few passes tell the choices apart. Battles that share a node have the same members out, with the same moves,
 //! status, stages and conditions, and HP in the same eighth; which numbers were drawn on the way makes no difference otherwise.
 use crate::Dice;
-use crate::expected::Scene;
-use crate::leaf::{self, MatchUps};
+use crate::leaf;
 use crate::matrix::CHOICES;
+use crate::playout::{BITS, Policy, bits};
 use alloc::vec::Vec;
 use core::num::NonZeroUsize;
 use core::ops::Range;
@@ -110,7 +110,7 @@ pub struct Tree<'a> {
     slots: Vec<(u64, u32)>,
     nodes: Vec<Node>,
     pub root: Root,
-    match_ups: Vec<MatchUps>,
+    policies: Vec<Policy>,
     dice: Dice,
 }
 
@@ -126,7 +126,7 @@ impl<'a> Tree<'a> {
         Tree {
             side,
             guesses,
-            match_ups: guesses.iter().map(MatchUps::of).collect(),
+            policies: guesses.iter().map(Policy::of).collect(),
             root: Root {
                 arms: alloc::vec![Arm::default(); choices],
                 passes: 0.0,
@@ -147,7 +147,7 @@ impl<'a> Tree<'a> {
         let mut battle = self.guesses[guess].clone();
         battle.reseed(self.dice.numbers());
         let steps = self.played(&mut battle, guess);
-        let value = leaf::value(&battle, &self.match_ups[guess]);
+        let value = self.policies[guess].value(&battle, &mut self.dice);
         for (at, step) in steps.iter().enumerate().rev() {
             self.learn(*step, value as f32, at == 0);
         }
@@ -179,10 +179,10 @@ impl<'a> Tree<'a> {
                 break;
             };
             if self.nodes[node].begin.is_none() {
-                let scene = Scene::of(battle, &self.match_ups[guess]);
+                let [first, second] = self.policies[guess].weights(battle);
                 self.nodes[node].begin = NonZeroUsize::new(self.arms.len());
-                self.arms.extend(begun(&scene, Side::One, ones));
-                self.arms.extend(begun(&scene, Side::Two, twos));
+                self.arms.extend(begun(&first, ones));
+                self.arms.extend(begun(&second, twos));
             }
             let [one, two] = self.chosen(node, steps.is_empty());
             steps.push(Step { node, one, two });
@@ -312,12 +312,12 @@ pub fn way_from(node: usize, one: usize, two: usize) -> u64 {
     mixed(node as u64 + 1, (one * 16 + two) as u64)
 }
 
-/// The arms of a side at a node that is met again.
-fn begun(scene: &Scene<'_>, side: Side, offered: OfferedMask) -> impl Iterator<Item = Arm> {
+/// The arms of a side at a node that is met again, with how probable choices are as weights by their bits.
+fn begun(of_bits: &[f32; BITS], offered: OfferedMask) -> impl Iterator<Item = Arm> + use<> {
     /// How much of the expectation all choices have alike.
     const EVEN: f32 = 0.1;
     let mut weights: ArrayVec<f32, CHOICES> = ArrayVec::new();
-    weights.extend(offered.iter().map(|it| scene.weight(side, it)));
+    weights.extend(bits(offered).map(|at| of_bits[at]));
     let (sum, even) = (weights.iter().sum::<f32>(), EVEN / weights.len() as f32);
     weights.into_iter().map(move |weight| Arm {
         expected: even + (1.0 - EVEN) * weight / sum,

@@ -4,6 +4,7 @@ use gen1::{
 };
 use gen1_search::leaf::{self, MatchUps};
 use gen1_search::matrix::best_play;
+use gen1_search::playout::Policy;
 use gen1_search::{
     Dice, Pp, Prior, PriorFault, SolveFault, SolveOptions, Solver, Stopped, TableFault, ThinkFault,
     ThinkOptions, Thought, think,
@@ -511,6 +512,71 @@ fn the_leaf_features_of_exchanged_sides_are_the_opposite() {
         for (at, (first, second)) in both.enumerate() {
             assert!((first + second).abs() < 1e-4, "{at}: {first} {second}");
         }
+    }
+}
+
+/// A battle of sample teams, with numbers by a seed, and the policy for it.
+fn of_samples(seed: u64) -> (Battle, Policy) {
+    let (prior, mut dice) = (Prior::samples(), Dice::new(seed));
+    let [one, two] = [(); 2].map(|()| Team::new(&prior.teams()[dice.below(12)].0).unwrap());
+    let mut battle = Battle::new(&one, &two, dice.numbers());
+    battle.update_silent(Choice::Pass, Choice::Pass).unwrap();
+    let policy = Policy::of(&battle);
+    (battle, policy)
+}
+
+#[test]
+fn playouts_are_worth_0_to_1_and_repeatable() {
+    for seed in 0..100 {
+        let (battle, policy) = of_samples(seed);
+        let values = [1, 2, 1].map(|seed| policy.played(&battle, &mut Dice::new(seed)));
+        assert!(values.iter().all(|it| (0.0..=1.0).contains(it)));
+        assert_eq!(values[0], values[2]);
+        let value = policy.value(&battle, &mut Dice::new(1));
+        let fixed = leaf::value(&battle, &MatchUps::of(&battle));
+        let between = values[0].min(fixed)..=values[0].max(fixed);
+        assert!(between.contains(&value), "{value}, not in {between:?}");
+    }
+}
+
+/// The last members of both sides have few HP, so that each playout ends.
+#[test]
+fn a_playout_that_ends_is_worth_its_result() {
+    let last = ("Tauros", ["Body Slam"].as_slice());
+    let battle = with_hp(&duel(100, last, last), 1, 1);
+    let (policy, mut dice, mut won) = (Policy::of(&battle), Dice::new(5), 0.0);
+    for _ in 0..200 {
+        let mut battle = battle.clone();
+        battle.reseed(dice.numbers());
+        let value = policy.played(&battle, &mut dice);
+        assert!([0.0, 0.5, 1.0].contains(&value), "{value}");
+        won += value;
+    }
+    assert!((80.0..=120.0).contains(&won), "{won} of 200");
+}
+
+#[test]
+fn a_battle_that_is_over_is_worth_its_result() {
+    for seed in 0..20 {
+        let (mut battle, policy) = of_samples(seed);
+        let mut dice = Dice::new(seed);
+        while !battle.is_over() {
+            let [one, two] = Side::BOTH.map(|side| {
+                let offered = battle.choices(side);
+                offered[dice.below(offered.len())]
+            });
+            battle.update_silent(one, two).unwrap();
+        }
+        let due = match battle.outcome().winner() {
+            Some(Side::One) => 1.0,
+            Some(Side::Two) => 0.0,
+            None => 0.5,
+        };
+        let found = [
+            policy.value(&battle, &mut dice),
+            policy.played(&battle, &mut dice),
+        ];
+        assert_eq!(found, [due; 2]);
     }
 }
 
