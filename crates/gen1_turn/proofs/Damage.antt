@@ -445,7 +445,7 @@ tested-like s move q r (inl same) goes = inl (ap (hit_or_miss s move) same)
 tested-like s move q r (inr a) goes = hit-like s move q r a goes
 
 -- A move without a late effect goes straight to its strike.
-late-none : (r : Ruling) (s : Side) (move : Move) (q : Progress) → is_late move.effect ≡ false → late_part r s move q ≡ q
+pub late-none : (r : Ruling) (s : Side) (move : Move) (q : Progress) → is_late move.effect ≡ false → late_part r s move q ≡ q
 unfolding stay
 late-none r s move q is = by (lets_energy_go q) refl
   where

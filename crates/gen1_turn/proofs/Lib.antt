@@ -1,5 +1,5 @@
 -- How an action begins and ends.
-pub mod Acted
+pub mod ActionEnds
 -- How the damage of a move is found, and which damages have the same effect.
 pub mod Damage
 -- The number of a move, and PP.
@@ -10,5 +10,7 @@ pub mod Living
 pub mod Trapping
 -- How the parts of a turn follow one another.
 pub mod Turns
+-- How an action comes to its roll.
+pub mod TwoParts
 -- The words of contracts, spelled out.
 mod Same

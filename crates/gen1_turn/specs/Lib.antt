@@ -6,3 +6,5 @@ pub mod ActionSteps
 pub mod Damage
 -- What the parts of a turn show.
 pub mod TurnParts
+-- What the two parts of an action show.
+pub mod TwoParts

@@ -13,6 +13,7 @@ mod lead_up;
 mod steps;
 mod strike;
 mod taken_move;
+mod two_parts;
 mod used_move;
 
 use gen1_events::EventSink;
@@ -23,6 +24,8 @@ use gen1_rolls::Rolls;
 use gen1_status::gate;
 use steps::carry_out;
 use taken_move::{move_taken, see_if_going_on};
+pub use two_parts::{Acted, Roll, roll_damage_of, test_hit};
+pub(crate) use two_parts::{from_test, to_roll};
 
 /// Plays the action of `side` by its pick, from the gate to the kept accuracy (docs/MECHANICS.md, "Action").
 ///

@@ -4,6 +4,7 @@
 //!   - `choices`: a turn, by both choices
 //!   - `order`: who acts first
 //!   - `parts`: the parts of a turn, with residual damage
+//!   - `two_parts`: an action in two parts, with residual damage
 //!   - `by_side`: a generator for the action of each side
 //! - `action`: one side's action
 //!   - `taken_move`: the move that an action takes
@@ -12,12 +13,16 @@
 //!   - `used_move`: a used move, and its PP
 //!   - `damage`: the damage of an action
 //!   - `strike`: a move that hits or misses
+//!   - `two_parts`: an action up to the roll of its damage, and from the roll on
 #![tactic(auto)]
 
 mod action;
 mod turn_update;
 
-pub use action::act;
+pub use action::{Acted, Roll, act, roll_damage_of, test_hit};
 pub use gen1_offers::{Choices, offered};
 pub use gen1_switching::{replace, send_out, start};
-pub use turn_update::{act_and_suffer_as, end_flinch, end_turn, first_side, set_picked, turn};
+pub use turn_update::{
+    act_after_test, act_and_suffer_as, act_to_roll, end_flinch, end_turn, first_side, set_picked,
+    turn,
+};

@@ -17,6 +17,7 @@ mod by_side;
 mod choices;
 mod order;
 mod parts;
+mod two_parts;
 
 use by_side::BySide;
 use choices::take_turn;
@@ -29,6 +30,7 @@ use gen1_rolls::Rolls;
 use gen1_switching::{close, close_uncut};
 pub use order::first_side;
 pub use parts::{act_and_suffer_as, end_turn};
+pub use two_parts::{act_after_test, act_to_roll};
 
 /// Plays a turn of a battle that asks for moves, by an offered choice of each side (docs/MECHANICS.md, "Order of a
 /// turn", "Falls and requests").

@@ -5,7 +5,8 @@
 //! 72 / 50 + 2`, and half as much again if it is Normal. A sweep from 178 draws no critical hit, the factor 217, and
 //! then 180. A sweep from 253 draws no critical hit either. It passes 254 and draws the factor 255, and then 0.
 use crate::rows::Step::{
-    Act, Changed, Is, Link, LinkAct, Mark, Next, NextLink, Over, Put, Start, Tested, Told, ToldSome,
+    Act, ActTested, Changed, Is, Link, LinkAct, Mark, Next, NextLink, Over, Put, Start, Tested,
+    Told, ToldSome,
 };
 use crate::rows::Teams::Alone;
 use crate::rows::{FOE, Fact, Row, SLOT, USER, play};
@@ -14,7 +15,7 @@ use gen1_machine::{Outcome, Pick, UsedMove};
 use gen1_tables::{Element, Stat};
 use std::test::Fail;
 
-static ACTIONS: [Row; 12] = [
+static ACTIONS: [Row; 14] = [
     Row {
         name: "Dig is prepared, and costs PP as it strikes",
         teams: Alone("Dig", 100),
@@ -103,6 +104,41 @@ static ACTIONS: [Row; 12] = [
             Is(Fact::Hp(FOE, 255)),
             NextLink(3),
             Tested(255),
+        ],
+    },
+    // 178 is not critical, 179 is below 255, 180 isn't a factor, and 181 is the factor 218. 106 with it is 90.
+    Row {
+        name: "a hit test comes before the roll",
+        teams: Alone("Strength", 100),
+        steps: &[
+            Start,
+            Mark,
+            ActTested(SLOT, 178),
+            Over(false),
+            Next(182),
+            Changed(&[(3, &[90]), (208, &[7, 1]), (43, &[14]), (197, &[1])]),
+            Told(&[
+                "|move|p1a: Tauros|Strength|p2a: Tauros",
+                "|-damage|p2a: Tauros|263/353",
+            ]),
+            Tested(255),
+        ],
+    },
+    // 253 is not critical, and 254 isn't below 216.
+    Row {
+        name: "a miss before the roll draws no factor",
+        teams: Alone("Take Down", 100),
+        steps: &[
+            Start,
+            Mark,
+            ActTested(SLOT, 253),
+            Over(false),
+            Next(255),
+            Told(&[
+                "|move|p1a: Tauros|Take Down|p2a: Tauros",
+                "|-miss|p1a: Tauros",
+            ]),
+            Tested(216),
         ],
     },
     Row {

@@ -16,7 +16,7 @@ use gen1_rolls::{LinkRandom, Rolls, Sweep};
 use gen1_stats::{MemberSpec, Status, Team};
 use gen1_switching::{close, close_uncut, replace, send_both_first, send_out, start};
 use gen1_tables::{Element, MoveId, Species, Stat};
-use gen1_turn::{act, turn};
+use gen1_turn::{Acted, Roll, act, act_after_test, act_to_roll, roll_damage_of, test_hit, turn};
 use std::alloc::Global;
 use std::process::Abort;
 use std::test::Fail;
@@ -67,6 +67,8 @@ pub(crate) enum Step {
     LinkTurn(u8, u8),
     /// The user's action, which draws from a sweep from this byte on.
     Act(Pick, u8),
+    /// The user's action with its residual damage, and with its hit test before the roll of its damage.
+    ActTested(Pick, u8),
     /// The user's action, which draws from link numbers.
     LinkAct(Pick),
 
@@ -82,7 +84,7 @@ pub(crate) enum Step {
     NextLink(u8),
     /// The accuracy that the action tested.
     Tested(u8),
-    /// Whether the action ended the battle.
+    /// Whether the action ended the battle, or the rest of the turn is skipped.
     Over(bool),
     Offered(Side, &'static [u8]),
     /// These bytes differ from the remembered ones, and no others do.
@@ -185,6 +187,7 @@ fn take(rt: &impl Abort, game: &mut Game, step: Step, at: (&str, usize)) -> Resu
         | Step::CloseUncut => switch(game, step)?,
         Step::Turn(..) | Step::LinkTurn(..) => take_turn(game, step)?,
         Step::Act(..) | Step::LinkAct(_) => take_action(game, step),
+        Step::ActTested(pick, from) => act_tested(game, pick, from),
         _ => expect(rt, game, step, at)?,
     }
     Ok(())
@@ -244,6 +247,34 @@ fn take_action(game: &mut Game, step: Step) {
         Step::LinkAct(pick) => act(battle, USER, pick, &mut known, &mut game.link, &mut events),
         _ => false,
     };
+    game.tested = known.accuracy_tested;
+    game.events = events;
+}
+
+// `is_over` is whether the rest of the turn is skipped.
+fn act_tested(game: &mut Game, pick: Pick, from: u8) {
+    let mut events = EventList::new();
+    let mut known = Known::new();
+    let mut sweep = Sweep::new(from);
+    let battle = &mut game.battle;
+    game.is_over = match act_to_roll(battle, USER, pick, &mut known, &mut sweep, &mut events) {
+        Acted::Ended(skipped) => skipped,
+        Acted::Rolls(roll) => {
+            let id = roll.id;
+            let tested = Roll {
+                id,
+                damage: roll.damage,
+                going_on: roll.going_on,
+                critical: roll.critical,
+            };
+            test_hit(battle, USER, tested, &mut known, &mut sweep);
+            if !known.missed {
+                roll_damage_of(battle, USER, roll, &mut sweep);
+            }
+            act_after_test(battle, USER, id, &mut known, &mut sweep, &mut events)
+        }
+    };
+    game.sweep = sweep;
     game.tested = known.accuracy_tested;
     game.events = events;
 }

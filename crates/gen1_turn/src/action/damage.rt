@@ -118,7 +118,7 @@ fn roll_damage<R: Rolls>(
 
 // The least damage of a hit that fells the foe or breaks its Substitute, and whether all damage from there on has the
 // same effect. A Substitute takes damage uncut.
-fn damage_edge(battle: &Packed, foe: Side) -> (u16, bool)
+pub(super) fn damage_edge(battle: &Packed, foe: Side) -> (u16, bool)
     ensures edge { Reads battle.now result.0 (edge_in foe) }
     ensures cut { Reads battle.now result.1 (cuts_in foe) }
 {

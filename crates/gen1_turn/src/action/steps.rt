@@ -50,7 +50,7 @@ pub(crate) fn carry_out<R: Rolls, S: EventSink>(
     damage_and_strike(battle, side, id, known, random, events)
 }
 
-fn lead_up_unless_let_go<R: Rolls, S: EventSink>(
+pub(super) fn lead_up_unless_let_go<R: Rolls, S: EventSink>(
     battle: &mut Packed,
     side: Side,
     pick: Pick,
@@ -75,7 +75,7 @@ fn lead_up_unless_let_go<R: Rolls, S: EventSink>(
 }
 
 // What follows the lead-up.
-fn damage_and_strike<R: Rolls, S: EventSink>(
+pub(super) fn damage_and_strike<R: Rolls, S: EventSink>(
     battle: &mut Packed,
     side: Side,
     id: MoveId,
@@ -120,7 +120,7 @@ fn damage_unless_landing<R: Rolls>(
 }
 
 // Bide's energy and trapping that continues skip the damage and go straight to the landing.
-fn lands_at_once(known: &Known, effect: Effect) -> bool
+pub(super) fn lands_at_once(known: &Known, effect: Effect) -> bool
     ensures { result ≡ (known.now.letting_go || (known.now.going_on && traps effect)) }
 {
     known.letting_go || (known.going_on && effect.traps())

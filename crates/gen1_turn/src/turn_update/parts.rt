@@ -117,7 +117,11 @@ fn takes_hp(status: Status) -> bool
 
 // A side's residual damage after a skipped action. Few actions are skipped.
 #[inline(never)] // docs/SPEED.md, "Hints on inlining"
-fn suffer_unless_over<S: EventSink>(battle: &mut Packed, side: Side, events: &mut S) -> bool
+pub(super) fn suffer_unless_over<S: EventSink>(
+    battle: &mut Packed,
+    side: Side,
+    events: &mut S,
+) -> bool
     requires room { HasRoom S.room 3 events.old }
     ensures shown { (g : Frame) (p : Progress) → Shows g battle.old (S.tells events.old) false p
         → LeavesRest (Shows g battle.new (S.tells events.new)) result (suffering side) (residual side)
@@ -133,7 +137,7 @@ fn suffer_unless_over<S: EventSink>(battle: &mut Packed, side: Side, events: &mu
 // A side's residual damage in a battle that continues, unless an active member has fallen. Returns whether the turn is
 // cut now.
 #[inline(always)] // docs/SPEED.md, "Hints on inlining"
-fn suffer<S: EventSink>(battle: &mut Packed, side: Side, events: &mut S) -> bool
+pub(super) fn suffer<S: EventSink>(battle: &mut Packed, side: Side, events: &mut S) -> bool
     requires room { HasRoom S.room 3 events.old }
     ensures shown { (g : Frame) (p : Progress) → is_over p.field.outcome ≡ false
         → Shows g battle.old (S.tells events.old) false p

@@ -5,6 +5,7 @@
 //!   - `choices`: a turn, by both choices
 //!   - `order`: who acts first
 //!   - `parts`: the parts of a turn, with residual damage
+//!   - `two_parts`: an action in two parts, with residual damage
 //!   - `by_side`: a generator for the action of each side
 //! - `action`: one side's action
 //!   - `taken_move`: the move that an action takes
@@ -13,6 +14,7 @@
 //!   - `used_move`: a used move, and its PP
 //!   - `damage`: the damage of an action
 //!   - `strike`: a move that hits or misses
+//!   - `two_parts`: an action up to the roll of its damage, and from the roll on
 
 mod action {
     //! One side's action ([docs/MECHANICS.md, "Action"](https://hibsuloy.example/gen1/blob/main/docs/MECHANICS.md#action)).
@@ -111,7 +113,7 @@ mod action {
 
         // The least damage of a hit that fells the foe or breaks its Substitute, and whether all damage from there on has the
         // same effect. A Substitute takes damage uncut.
-        fn damage_edge(battle: &Packed, foe: Side) -> (u16, bool) {
+        pub(super) fn damage_edge(battle: &Packed, foe: Side) -> (u16, bool) {
             match battle.substitute(foe) {
                 Some(left) => (u16::from(left) + 1, false),
                 None => (battle.hp(foe), true),
@@ -234,7 +236,7 @@ mod action {
             damage_and_strike(battle, side, id, known, random, events)
         }
 
-        fn lead_up_unless_let_go<R: Rolls, S: EventSink>(
+        pub(super) fn lead_up_unless_let_go<R: Rolls, S: EventSink>(
             battle: &mut Packed,
             side: Side,
             pick: Pick,
@@ -250,7 +252,7 @@ mod action {
         }
 
         // What follows the lead-up.
-        fn damage_and_strike<R: Rolls, S: EventSink>(
+        pub(super) fn damage_and_strike<R: Rolls, S: EventSink>(
             battle: &mut Packed,
             side: Side,
             id: MoveId,
@@ -281,7 +283,7 @@ mod action {
         }
 
         // Bide's energy and trapping that continues skip the damage and go straight to the landing.
-        fn lands_at_once(known: &Known, effect: Effect) -> bool {
+        pub(super) fn lands_at_once(known: &Known, effect: Effect) -> bool {
             known.letting_go || (known.going_on && effect.traps())
         }
 
@@ -400,6 +402,227 @@ mod action {
         }
     }
 
+    mod two_parts {
+        //! An action in two parts: up to the roll of its damage, and from the roll on ([docs/MECHANICS.md, "Action"](https://hibsuloy.example/gen1/blob/main/docs/MECHANICS.md#action), "Factors").
+
+        use super::damage::damage_edge;
+        use super::keep_accuracy;
+        use super::steps::{damage_and_strike, lands_at_once, lead_up_unless_let_go};
+        use super::strike::strike;
+        use super::taken_move::{move_taken, see_if_going_on};
+        use crate::generated::events::EventSink;
+        use crate::generated::hits::{
+            Known, critical, damage, factor_up_to, has_usual_damage, hit_or_miss, numbers, type_steps,
+        };
+        use crate::generated::layout::Packed;
+        use crate::generated::machine::{Outcome, Pick, Side};
+        use crate::generated::multiturn::bide_knowing;
+        use crate::generated::rolls::Rolls;
+        use crate::generated::status::gate;
+        use crate::generated::tables::MoveId;
+
+        /// The damage that an action is about to roll, and what is known of the action then.
+        #[derive(Clone, Copy, Debug, PartialEq, Eq)]
+        pub struct Roll {
+            /// The move.
+            pub id: MoveId,
+            /// The damage before its factor, 2 to 5,992 ([docs/MECHANICS.md, "Factors"](https://hibsuloy.example/gen1/blob/main/docs/MECHANICS.md#factors)).
+            pub damage: u16,
+            /// The action continues from an earlier turn.
+            pub going_on: bool,
+            /// The hit is critical.
+            pub critical: bool,
+        }
+
+        /// How far an action was played.
+        #[derive(Clone, Copy, Debug, PartialEq, Eq)]
+        pub enum Acted {
+            /// To its end, and its residual damage too. It says whether the rest of the turn is skipped.
+            Ended(bool),
+            /// Up to the roll of its damage.
+            Rolls(Roll),
+        }
+
+        // Plays an action that has begun, to its end or up to the roll of its damage. An end says whether the battle is over.
+        pub(crate) fn to_roll<R: Rolls, S: EventSink>(
+            battle: &mut Packed,
+            side: Side,
+            pick: Pick,
+            known: &mut Known,
+            random: &mut R,
+            events: &mut S,
+        ) -> Acted {
+            match parts_to_roll(battle, side, pick, known, random, events) {
+                Acted::Ended(_) => Acted::Ended(end_action(battle, side, known)),
+                Acted::Rolls(roll) => Acted::Rolls(roll),
+            }
+        }
+
+        // The parts of an action. An end says whether the rest of the parts was skipped, here and below.
+        fn parts_to_roll<R: Rolls, S: EventSink>(
+            battle: &mut Packed,
+            side: Side,
+            pick: Pick,
+            known: &mut Known,
+            random: &mut R,
+            events: &mut S,
+        ) -> Acted {
+            if gate(battle, side, pick, random, events).stops() {
+                return Acted::Ended(true);
+            }
+            see_if_going_on(battle, side, pick, known);
+            let id = move_taken(battle, side, pick);
+            carry_to_roll(battle, side, pick, id, known, random, events)
+        }
+
+        // The parts after the move is settled.
+        fn carry_to_roll<R: Rolls, S: EventSink>(
+            battle: &mut Packed,
+            side: Side,
+            pick: Pick,
+            id: MoveId,
+            known: &mut Known,
+            random: &mut R,
+            events: &mut S,
+        ) -> Acted {
+            if bide_knowing(battle, side, known, events) {
+                return Acted::Ended(true);
+            }
+            if lead_up_unless_let_go(battle, side, pick, id, known, random, events) {
+                return Acted::Ended(true);
+            }
+            strike_to_roll(battle, side, id, known, random, events)
+        }
+
+        // What follows the lead-up.
+        fn strike_to_roll<R: Rolls, S: EventSink>(
+            battle: &mut Packed,
+            side: Side,
+            id: MoveId,
+            known: &mut Known,
+            random: &mut R,
+            events: &mut S,
+        ) -> Acted {
+            if has_formula(known, id) {
+                return critical_to_roll(battle, side, id, known, random, events);
+            }
+            Acted::Ended(damage_and_strike(battle, side, id, known, random, events))
+        }
+
+        // Whether the action finds its damage by the formula.
+        fn has_formula(known: &Known, id: MoveId) -> bool {
+            has_usual_damage(id) && !lands_at_once(known, id.effect())
+        }
+
+        fn critical_to_roll<R: Rolls, S: EventSink>(
+            battle: &mut Packed,
+            side: Side,
+            id: MoveId,
+            known: &mut Known,
+            random: &mut R,
+            events: &mut S,
+        ) -> Acted {
+            battle.put_last_damage(0);
+            known.critical = critical(battle, side, id, random);
+            damage_to_roll(battle, side, id, known, random, events)
+        }
+
+        // Damage of 0 and 1 is not rolled.
+        fn damage_to_roll<R: Rolls, S: EventSink>(
+            battle: &mut Packed,
+            side: Side,
+            id: MoveId,
+            known: &mut Known,
+            random: &mut R,
+            events: &mut S,
+        ) -> Acted {
+            let numbers = numbers(battle, side, id, known.critical);
+            let Some(before) = damage(&numbers) else {
+                battle.put_outcome(Outcome::Fault(1));
+                return Acted::Ended(true);
+            };
+            let after = type_steps(before, &numbers);
+            known.through_types = true;
+            known.missed = after == 0;
+            if after >= 2 {
+                return Acted::Rolls(Roll {
+                    id,
+                    damage: after,
+                    going_on: known.going_on,
+                    critical: known.critical,
+                });
+            }
+            battle.put_last_damage(after);
+            Acted::Ended(test_and_strike(battle, side, id, known, random, events))
+        }
+
+        // The hit test and the strike of a move with power.
+        fn test_and_strike<R: Rolls, S: EventSink>(
+            battle: &mut Packed,
+            side: Side,
+            id: MoveId,
+            known: &mut Known,
+            random: &mut R,
+            events: &mut S,
+        ) -> bool {
+            hit_or_miss(battle, side, id, known, random);
+            strike(battle, side, id, known, random, events)
+        }
+
+        fn known_at(side: Side, going_on: bool, critical: bool) -> Known {
+            Known {
+                side,
+                going_on,
+                critical,
+                through_types: true,
+                ..Known::new()
+            }
+        }
+
+        /// Draws the hit test of an action of `side` before the roll of its damage ([docs/MECHANICS.md, "Hit test"](https://hibsuloy.example/gen1/blob/main/docs/MECHANICS.md#hit-test)).
+        ///
+        /// `roll` is what `act_to_roll` returned for this battle. `known` may be anything, and then holds what is known of the
+        /// action. If that is a miss, no damage is rolled.
+        pub fn test_hit<R: Rolls>(
+            battle: &mut Packed,
+            side: Side,
+            roll: Roll,
+            known: &mut Known,
+            random: &mut R,
+        ) {
+            *known = known_at(side, roll.going_on, roll.critical);
+            hit_or_miss(battle, side, roll.id, known, random);
+        }
+
+        /// Rolls the damage of an action of `side` that has hit ([docs/MECHANICS.md, "Factors"](https://hibsuloy.example/gen1/blob/main/docs/MECHANICS.md#factors)).
+        ///
+        /// The last damage is then the rolled one, or another that does the same to the foe.
+        pub fn roll_damage_of<R: Rolls>(battle: &mut Packed, side: Side, roll: Roll, random: &mut R) {
+            let (edge, cut) = damage_edge(battle, side.other());
+            let varied = factor_up_to(roll.damage, edge, cut, random);
+            battle.put_last_damage(varied);
+        }
+
+        // Plays the rest of an action after its hit test and its roll. Returns whether the battle is over then.
+        pub(crate) fn from_test<R: Rolls, S: EventSink>(
+            battle: &mut Packed,
+            side: Side,
+            id: MoveId,
+            known: &mut Known,
+            random: &mut R,
+            events: &mut S,
+        ) -> bool {
+            strike(battle, side, id, known, random, events);
+            end_action(battle, side, known)
+        }
+
+        // The end of an action. Returns whether the battle is over.
+        fn end_action(battle: &mut Packed, side: Side, known: &Known) -> bool {
+            keep_accuracy(battle, side, known.accuracy_tested);
+            battle.outcome().is_over()
+        }
+    }
+
     mod used_move {
         //! The use of a move: it becomes the current one, and costs PP ([docs/MECHANICS.md, "Action"](https://hibsuloy.example/gen1/blob/main/docs/MECHANICS.md#action), step 4).
 
@@ -484,6 +707,8 @@ mod action {
     use crate::generated::status::gate;
     use steps::carry_out;
     use taken_move::{move_taken, see_if_going_on};
+    pub use two_parts::{Acted, Roll, roll_damage_of, test_hit};
+    pub(crate) use two_parts::{from_test, to_roll};
 
     /// Plays the action of `side` by its pick, from the gate to the kept accuracy ([docs/MECHANICS.md, "Action"](https://hibsuloy.example/gen1/blob/main/docs/MECHANICS.md#action)).
     ///
@@ -895,7 +1120,11 @@ mod turn_update {
 
         // A side's residual damage after a skipped action. Few actions are skipped.
         #[inline(never)] // docs/SPEED.md, "Hints on inlining"
-        fn suffer_unless_over<S: EventSink>(battle: &mut Packed, side: Side, events: &mut S) -> bool {
+        pub(super) fn suffer_unless_over<S: EventSink>(
+            battle: &mut Packed,
+            side: Side,
+            events: &mut S,
+        ) -> bool {
             if battle.outcome().is_over() {
                 return true;
             }
@@ -905,7 +1134,7 @@ mod turn_update {
         // A side's residual damage in a battle that continues, unless an active member has fallen. Returns whether the turn is
         // cut now.
         #[inline(always)] // docs/SPEED.md, "Hints on inlining"
-        fn suffer<S: EventSink>(battle: &mut Packed, side: Side, events: &mut S) -> bool {
+        pub(super) fn suffer<S: EventSink>(battle: &mut Packed, side: Side, events: &mut S) -> bool {
             if one_has_fallen(battle) {
                 return true;
             }
@@ -945,6 +1174,61 @@ mod turn_update {
         }
     }
 
+    mod two_parts {
+        //! A side's action in two parts, with its residual damage ([docs/MECHANICS.md, "Order of a turn"](https://hibsuloy.example/gen1/blob/main/docs/MECHANICS.md#order-of-a-turn)).
+
+        use super::parts::{suffer, suffer_unless_over};
+        use crate::generated::turn::action::{Acted, from_test, to_roll};
+        use crate::generated::events::EventSink;
+        use crate::generated::hits::Known;
+        use crate::generated::layout::Packed;
+        use crate::generated::machine::{Pick, Side};
+        use crate::generated::rolls::Rolls;
+        use crate::generated::tables::MoveId;
+
+        /// Plays the action of `side` in a turn up to the roll of its damage ([docs/MECHANICS.md, "Action"](https://hibsuloy.example/gen1/blob/main/docs/MECHANICS.md#action), "Factors").
+        ///
+        /// If the action rolls no damage of 2 or more, it is played to its end, and then its residual damage. `test_hit` and
+        /// what follows it play the rest of an action that rolls. It needs 24 free places in `events`.
+        pub fn act_to_roll<R: Rolls, S: EventSink>(
+            battle: &mut Packed,
+            side: Side,
+            pick: Pick,
+            known: &mut Known,
+            random: &mut R,
+            events: &mut S,
+        ) -> Acted {
+            *known = known.begun(side);
+            if known.skips {
+                return Acted::Ended(suffer_unless_over(battle, side, events));
+            }
+            match to_roll(battle, side, pick, known, random, events) {
+                Acted::Ended(true) => Acted::Ended(true),
+                Acted::Ended(false) => Acted::Ended(suffer(battle, side, events)),
+                Acted::Rolls(roll) => Acted::Rolls(roll),
+            }
+        }
+
+        /// Plays the rest of an action of `side` after its hit test and its roll, and then its residual damage
+        /// ([docs/MECHANICS.md, "Action"](https://hibsuloy.example/gen1/blob/main/docs/MECHANICS.md#action), from step 9 on).
+        ///
+        /// `test_hit` came before, and `roll_damage_of` if it hit. Returns whether the rest of the turn is skipped. It needs 17
+        /// free places in `events`.
+        pub fn act_after_test<R: Rolls, S: EventSink>(
+            battle: &mut Packed,
+            side: Side,
+            id: MoveId,
+            known: &mut Known,
+            random: &mut R,
+            events: &mut S,
+        ) -> bool {
+            if from_test(battle, side, id, known, random, events) {
+                return true;
+            }
+            suffer(battle, side, events)
+        }
+    }
+
 
     use by_side::BySide;
     use choices::take_turn;
@@ -957,6 +1241,7 @@ mod turn_update {
     use crate::generated::switching::{close, close_uncut};
     pub use order::first_side;
     pub use parts::{act_and_suffer_as, end_turn};
+    pub use two_parts::{act_after_test, act_to_roll};
 
     /// Plays a turn of a battle that asks for moves, by an offered choice of each side ([docs/MECHANICS.md](https://hibsuloy.example/gen1/blob/main/docs/MECHANICS.md), "Order of a
     /// turn", "Falls and requests").
@@ -991,7 +1276,10 @@ mod turn_update {
 }
 
 
-pub use action::act;
+pub use action::{Acted, Roll, act, roll_damage_of, test_hit};
 pub use crate::generated::offers::{Choices, offered};
 pub use crate::generated::switching::{replace, send_out, start};
-pub use turn_update::{act_and_suffer_as, end_flinch, end_turn, first_side, set_picked, turn};
+pub use turn_update::{
+    act_after_test, act_and_suffer_as, act_to_roll, end_flinch, end_turn, first_side, set_picked,
+    turn,
+};
