@@ -23,7 +23,7 @@ use Rattle.gen1_outcomes.specs.Complete.{GoesBy, IsExact, IsToCome, WaitsAfter, 
 use Rattle.gen1_outcomes.specs.Logs.{AllFit, Fits, NotesAll, NotesEntry, place_after, place_at, place_past, Agrees, IsLogged}
 use Rattle.gen1_outcomes.specs.Nodes.{AllDone, AreBytes, AreLeft, AreOn, AreToCome, IsSettled, LeadsOn, Notes, Passes, asked_at}
 use Rattle.gen1_outcomes.proofs.Logs.{entry_keeps}
-use Rattle.gen1_outcomes.proofs.Shifts.{NoneMissed, arrives_by, dropped, dropped-is, follows_arrived, follows_from}
+use Rattle.gen1_outcomes.proofs.Shifts.{NoneMissed, arrives_by, dropped, dropped-is, follows_arrived}
 use Rattle.gen1_outcomes.proofs.Walking.{at, some_node}
 use Rattle.gen1_machine.specs.declared.choice.Choice.{Choice}
 use Rattle.gen1_machine.specs.State.{State}
@@ -38,9 +38,9 @@ use Rattle.gen1_outcomes.specs.declared.outcomes.Outcomes.{Outcomes}
 use Rattle.gen1_outcomes.specs.declared.successor.Successor.{Successor}
 use Rattle.gen1_outcomes.specs.Following.{IsBegun, Walk}
 use Rattle.gen1_outcomes.specs.Listing.{KeepsFirst, AreThose}
-use Rattle.gen1_outcomes.specs.Middles.{PlaysOn, Arrives, IsAdded, IsAt, Reaches}
+use Rattle.gen1_outcomes.specs.Middles.{Arrives, IsAdded, IsAt, Reaches}
 use Rattle.gen1_outcomes.specs.Shares.{Adds}
-use Rattle.gen1_outcomes.specs.declared.beginning.Rest.{Rest}
+use Rattle.gen1_outcomes.specs.declared.beginning.Left.{Left}
 use Rattle.gen1_outcomes.specs.declared.middles.Middles.{Middles}
 use Rattle.gen1_outcomes.specs.declared.script.Script.{Script}
 use Rattle.gen1_outcomes.specs.Script.{script_of}
@@ -557,28 +557,10 @@ IsGoingFrom w middle nodes count xs = IsGoing (Offers w) (λ s stream. Lists (Fo
 abbrev pub IsPastFrom : Walk → Middle → Nodes → ℕ → List Successor → Type 0
 IsPastFrom w middle nodes count xs = IsPast (Offers w) (λ s stream. Lists (FollowsFrom s w.one w.two middle.bytes middle.rest stream) count xs) nodes
 
--- A way from there is played and added.
-pub past_more : (w : Walk) (middle : Middle) (nodes after : Nodes) (parts : Parts) (c : Chance) (first old mid new : Tally) (xs ys : List Successor)
-    → IsExact w.options → first.least ≡ 0 → old.least ≡ first.least → nodes.options ≡ w.options → after.too_large ≡ false
-    → PlaysOn w middle nodes after parts → Adds parts c old mid xs ys → KeepsFirst old.count xs ys → new.count ≡ mid.count → IsGoingFrom w middle nodes old.count xs
-    → IsPastFrom w middle after new.count ys
-past_more w middle nodes after parts c first old mid new xs ys exact least stays options fits plays adds keeps same going =
-    let Is = λ (s : State) (stream : Stream) (battle : Parts). FollowsFrom s w.one w.two middle.bytes middle.rest stream battle in
-    past_as (Offers w) (λ s stream. Agrees plays.way.log stream ⊎ Lists (Is s stream) old.count xs) (λ s stream. Lists (Is s stream) new.count ys) after
-    (λ s of stream is other.
-    elim other [
-      | inl agrees ↦
-          lists_added (Is s stream) parts c old mid new xs ys (stays ∙ least) adds same
-          (follows_from s w.one w.two middle.bytes middle.rest plays.way.log parts (plays.leads s of.stands of.offered) stream agrees)
-      | inr listed ↦ lists_as (Is s stream) old.count new.count xs ys (extends_more parts c old mid new xs ys adds keeps same) listed
-    ])
-    (past_way (Offers w) (λ s stream. Lists (Is s stream) old.count xs) (script_of plays.path) nodes after plays.way
-    (subst (λ (o : OutcomeOptions). IsExact o) (sym options) exact) fits going)
-
 -- From the beginning of an update these are battles for every stream.
 pub every_from : (w : Walk) (middle : Middle) (s : State) (count : ℕ) (xs : List Successor) → middle.rest ≡ None → ListsFrom w middle s count xs → ListsEvery s w.one w.two count xs
 every_from w middle s count xs none lists =
-    subst (λ (rest : Option Rest). (stream : Stream) → IsStream stream → Lists (FollowsFrom s w.one w.two middle.bytes rest stream) count xs) none lists
+    subst (λ (rest : Option Left). (stream : Stream) → IsStream stream → Lists (FollowsFrom s w.one w.two middle.bytes rest stream) count xs) none lists
 
 -- Another position with the same bytes and rest.
 arrives_as : (s : State) (one two : Choice) (stream : Stream) (old new : Middle) → new.bytes ≡ old.bytes → new.rest ≡ old.rest

@@ -4,7 +4,7 @@ use Rattle.gen1_rolls.specs.Streams.{IsStream, Stream, byte_at, first, first_wit
 use Rattle.gen1_rolls.proofs.Period.{byte-small, every_byte}
 use Rattle.gen1_machine.specs.Laws.{Draw as DrawNext, Done, Search, Tree, drawing_from, leads_to}
 use Rattle.gen1_machine.specs.Progress.{Phase, Progress}
-use Rattle.gen1_machine.proofs.Trees.{HasTree, searched, after-tree, drawless-tree}
+use Rattle.gen1_machine.proofs.Trees.{HasTree, searched, after-tree, choose-tree, drawless-tree, stay-tree, then-tree}
 use Rattle.gen1_rolls.specs.Looks.{passes, sees}
 use Rattle.gen1_outcomes.specs.declared.log.Entry.{Entry}
 use Rattle.gen1_outcomes.specs.declared.log.Entry.TheVariants.{Draw, Found, Missed}
@@ -18,16 +18,21 @@ use Rattle.gen1_machine.specs.declared.terms.Request.TheVariants as requests
 use Rattle.gen1_machine.specs.Ruling.{ruling_of}
 use Rattle.gen1_machine.specs.State.{Field, State, Terms}
 use Rattle.gen1_machine.specs.Step.{close_update}
-use Rattle.gen1_machine.specs.Turn.{Acts, Suffers}
-use Rattle.gen1_machine.proofs.TreeWalk.{close_update-tree, do_parts-tree, ruling-tree}
+use Rattle.gen1_machine.specs.declared.side.Side.{Side}
+use Rattle.gen1_machine.specs.Turn.{Acts, Suffers, end_turn}
+use Rattle.gen1_machine.proofs.TreeWalk.{close_update-tree, do_parts-tree, end_turn-tree, residual-tree, ruling-tree}
 use Rattle.gen1_layout.specs.Parts.{Parts}
+use Rattle.gen1_turn.specs.TurnParts.{suffering}
+use Rattle.gen1_turn.proofs.TwoParts.{from_roll-tree}
 use Rattle.gen1_engine.proofs.Making.{plays_turn}
+use Rattle.gen1_outcomes.specs.declared.beginning.Left.{Left}
+use Rattle.gen1_outcomes.specs.declared.beginning.Left.TheVariants as lefts
 use Rattle.gen1_outcomes.specs.declared.beginning.Rest.{Rest}
 use Rattle.gen1_outcomes.specs.declared.middles.Middle.{Middle}
 use Rattle.gen1_outcomes.specs.declared.nodes.Nodes.{Nodes}
-use Rattle.gen1_outcomes.specs.Beginning.{IsReady, asks_for_move, have_two_actions, is_move, rest_of, second_action}
+use Rattle.gen1_outcomes.specs.Beginning.{IsReadyFor, asks_for_move, have_two_actions, is_move, left_of, rest_of, second_action}
 use Rattle.gen1_outcomes.specs.Complete.{FollowsFrom, OffersTwo}
-use Rattle.gen1_outcomes.specs.Following.{AreOf, Follows, Leads, Walk}
+use Rattle.gen1_outcomes.specs.Following.{AreOf, Follows, Walk}
 use Rattle.gen1_outcomes.specs.Listing.{untold}
 use Rattle.gen1_outcomes.specs.Middles.{Arrives, IsAt, LeadsFrom, Reaches}
 
@@ -97,7 +102,7 @@ tree-dropped (Search test found none) s n m =
         ap (λ (i : ℕ). leads_to none s i) on ∙ rest
 
 -- A phase with a tree does the same on the rest of a stream from its beginning as on the whole from there.
-phase-dropped : {f : Phase} → HasTree f → (p : Progress) (s : Stream) (n m : ℕ)
+pub phase-dropped : {f : Phase} → HasTree f → (p : Progress) (s : Stream) (n m : ℕ)
     → f (drawing_from s (n + m) p) ≡ on_whole s n (f (drawing_from (dropped n s) m p))
 phase-dropped {f} k p s n m = k.leads p s (n + m) ∙ tree-dropped (k.tree p) s n m ∙ ap (on_whole s n) (sym (k.leads p (dropped n s) m))
 
@@ -111,7 +116,7 @@ phase-restarted {f} k p =
     ap (λ (n : ℕ). f (drawing_from p.stream n p)) here ∙ phase-dropped k p p.stream p.drawn 0
 
 -- One log after the other.
-fit_both : (xs ys : List Entry) (s : Stream) (n : ℕ) → AllFit xs s n → AllFit ys s (place_at xs s n) → AllFit (xs ++ ys) s n
+pub fit_both : (xs ys : List Entry) (s : Stream) (n : ℕ) → AllFit xs s n → AllFit ys s (place_at xs s n) → AllFit (xs ++ ys) s n
 fit_both [] ys s n one later = later
 fit_both (x ∷ xs) ys s n one later = (one.0, fit_both xs ys s (place_after x s n) one.1 later)
 
@@ -160,7 +165,7 @@ fits-dropped (Found test look b) s n m fits =
 fits-dropped (Missed test) s n m none = moved-none n (first (dropped n s) m (passes test)) (sym (first-dropped s n m (passes test)) ∙ none)
 
 -- So are those of a log.
-all-whole : (es : List Entry) (s : Stream) (n m : ℕ) → AllFit es (dropped n s) m → AllFit es s (n + m)
+pub all-whole : (es : List Entry) (s : Stream) (n m : ℕ) → AllFit es (dropped n s) m → AllFit es s (n + m)
 all-whole [] s n m all = tt
 all-whole (e ∷ es) s n m all = (
   fits-whole e s n m all.0,
@@ -175,13 +180,13 @@ all-dropped (e ∷ es) s n m all = (
 )
 
 -- A stream that agrees with two logs, one after the other, agrees with the first, and what is left of it after this with the second.
-abbrev rest_after : List Entry → Stream → Stream
+abbrev pub rest_after : List Entry → Stream → Stream
 rest_after log s = dropped (place_at log s 0) s
 
-agrees_first : (xs ys : List Entry) (s : Stream) → Agrees (xs ++ ys) s → Agrees xs s
+pub agrees_first : (xs ys : List Entry) (s : Stream) → Agrees (xs ++ ys) s → Agrees xs s
 agrees_first xs ys s all = record { is = all.is; fit = (fit_each xs ys s 0 all.fit).0 }
 
-agrees_then : (xs ys : List Entry) (s : Stream) → Agrees (xs ++ ys) s → Agrees ys (rest_after xs s)
+pub agrees_then : (xs ys : List Entry) (s : Stream) → Agrees (xs ++ ys) s → Agrees ys (rest_after xs s)
 agrees_then xs ys s all =
     let n = place_at xs s 0 in
     let here : n ≡ n + 0 = omega arith in
@@ -207,7 +212,7 @@ after-onward (Found test look b) s n = by (first s n (passes test)) refl
     by None e = omega arith
 after-onward (Missed test) s n = omega arith
 
-place-onward : (es : List Entry) (s : Stream) (n : ℕ) → n ≤ place_at es s n
+pub place-onward : (es : List Entry) (s : Stream) (n : ℕ) → n ≤ place_at es s n
 place-onward [] s n = omega arith
 place-onward (e ∷ es) s n = omega (arith, after-onward e s n, place-onward es s (place_after e s n))
 
@@ -257,7 +262,7 @@ fits-also (Found test look b ∷ es) s w n m none all far covers =
 fits-also (Missed test ∷ es) s w n m none all far covers = absurd none
 
 -- The first n bytes of one stream, and then those of another.
-abbrev joined_bytes : ℕ → Stream → Stream → ℕ → ℕ
+abbrev pub joined_bytes : ℕ → Stream → Stream → ℕ → ℕ
 joined_bytes n s w k = cond (nat_lt k n) (byte_at s k) (byte_at w (k - n))
 
 less_or : (k n : ℕ) → ((k < n) × (nat_lt k n ≡ true)) ⊎ ((n ≤ k) × (nat_lt k n ≡ false))
@@ -267,76 +272,107 @@ less_or k n = by (nat_lt k n) refl
     by true e = inl (let lt : k < n = grind (arith, nat_tests) in lt, e)
     by false e = inr (let le : n ≤ k = grind (arith, nat_tests) in le, e)
 
-joined-low : (n : ℕ) (s w : Stream) (k : ℕ) → k < n → joined_bytes n s w k ≡ byte_at s k
+pub joined-low : (n : ℕ) (s w : Stream) (k : ℕ) → k < n → joined_bytes n s w k ≡ byte_at s k
 joined-low n s w k lt =
     elim (less_or k n) [
       | inl low ↦ ap (λ (b : Bool). cond b (byte_at s k) (byte_at w (k - n))) low.1
       | inr high ↦ absurd (omega (arith, lt, high.0))
     ]
 
-joined-high : (n : ℕ) (s w : Stream) (k : ℕ) → n ≤ k → joined_bytes n s w k ≡ byte_at w (k - n)
+pub joined-high : (n : ℕ) (s w : Stream) (k : ℕ) → n ≤ k → joined_bytes n s w k ≡ byte_at w (k - n)
 joined-high n s w k le =
     elim (less_or k n) [
       | inl low ↦ absurd (omega (arith, le, low.0))
       | inr high ↦ ap (λ (b : Bool). cond b (byte_at s k) (byte_at w (k - n))) high.1
     ]
 
-joined-small : (n : ℕ) (s w : Stream) → IsStream s → IsStream w → (k : ℕ) → joined_bytes n s w k < 256
+pub joined-small : (n : ℕ) (s w : Stream) → IsStream s → IsStream w → (k : ℕ) → joined_bytes n s w k < 256
 joined-small n s w is ok k =
     elim (less_or k n) [
       | inl low ↦ subst (λ (b : ℕ). b < 256) (sym (joined-low n s w k low.0)) (byte-small s k is)
       | inr high ↦ subst (λ (b : ℕ). b < 256) (sym (joined-high n s w k high.0)) (byte-small w (k - n) ok)
     ]
 
--- Of any 560 of them in a row, 280 are of one of the two.
+-- Where one log after the other ends, and that both have no search that found nothing.
+pub place_both : (xs ys : List Entry) (s : Stream) (n : ℕ) → place_at (xs ++ ys) s n ≡ place_at ys s (place_at xs s n)
+place_both [] ys s n = refl
+place_both (x ∷ xs) ys s n = place_both xs ys s (place_after x s n)
+
+pub place-dropped : (es : List Entry) (s : Stream) (n m : ℕ) → place_at es s (n + m) ≡ n + place_at es (dropped n s) m
+place-dropped [] s n m = refl
+place-dropped (e ∷ es) s n m = ap (place_at es s) (after-dropped e s n m) ∙ place-dropped es s n (place_after e (dropped n s) m)
+
+pub none_both : (xs ys : List Entry) → NoneMissed xs → NoneMissed ys → NoneMissed (xs ++ ys)
+none_both [] ys one later = later
+none_both (Draw look b ∷ xs) ys one later = none_both xs ys one later
+none_both (Found test look b ∷ xs) ys one later = none_both xs ys one later
+none_both (Missed test ∷ xs) ys one later = absurd one
+
+-- Of as many of them in a row as both spans, one span is of one of the two.
 at_least : (m n : ℕ) → (m ≤ n) ⊎ (n < m)
 at_least m n = grind arith
 
-joined-holds : (n : ℕ) (s w : Stream) → IsStream s → IsStream w → span s ≡ 280 → span w ≡ 280 → (m : ℕ) → HoldsEveryByte (λ k. joined_bytes n s w (m + k)) 560
-joined-holds n s w is ok long wide m b lt =
-    elim (at_least (m + 280) n) [
+pub joined-holds : (n width : ℕ) (s w : Stream) → span s + span w ≤ width → IsStream s → IsStream w → (m : ℕ) → HoldsEveryByte (λ k. joined_bytes n s w (m + k)) width
+joined-holds n width s w wide is ok m b lt =
+    elim (at_least (m + span s) n) [
       | inl before ↦
           let at = every_byte s is m b lt in
-          let few : at.0 < 280 = omega (arith, at.1.0, long) in
-          (at.0, (omega (arith, few), joined-low n s w (m + at.0) (omega (arith, few, before)) ∙ at.1.1))
+          let few : at.0 < span s = at.1.0 in
+          (at.0, (omega (arith, few, wide), joined-low n s w (m + at.0) (omega (arith, few, before)) ∙ at.1.1))
       | inr past ↦
           let from = m - n in
           let at = every_byte w ok from b lt in
-          let few : at.0 < 280 = omega (arith, at.1.0, wide) in
+          let few : at.0 < span w = at.1.0 in
           let k = n - m + at.0 in
           let high : n ≤ m + (n - m + at.0) = omega arith in
           let place : m + (n - m + at.0) - n ≡ m - n + at.0 = omega arith in
-          (k, (omega (arith, few, past), joined-high n s w (m + k) high ∙ ap (byte_at w) place ∙ at.1.1))
+          (k, (omega (arith, few, past, wide), joined-high n s w (m + k) high ∙ ap (byte_at w) place ∙ at.1.1))
     ]
 
-joined-covers : (n : ℕ) (s w : Stream) → span s ≡ 280 → Covers s (Drawn (joined_bytes n s w) 560) 0 n
-unfolding byte_at
-joined-covers n s w long = record { bytes = λ k from to. joined-low n s w k to; wide = omega (arith, long) }
+-- A stream that agrees with one log, up to its end, and then one that agrees with another: it agrees with both, and ends where these do.
+abbrev pub joined_stream : List Entry → Stream → Stream → ℕ → Stream
+joined_stream xs s w width = Drawn (joined_bytes (place_at xs s 0) s w) width
 
-joined-covers_after : (n : ℕ) (s w : Stream) (m : ℕ) → span w ≡ 280 → Covers w (dropped n (Drawn (joined_bytes n s w) 560)) 0 m
+pub record JoinedAgree (xs ys : List Entry) (s w : Stream) (width : ℕ) : Type 0 where
+  pub agrees : Agrees (xs ++ ys) (joined_stream xs s w width)
+  pub first : place_at xs (joined_stream xs s w width) 0 ≡ place_at xs s 0
+  pub place : place_at (xs ++ ys) (joined_stream xs s w width) 0 ≡ place_at xs s 0 + place_at ys w 0
+  pub later : (i : ℕ) → byte_at (joined_stream xs s w width) (place_at xs s 0 + i) ≡ byte_at w i
+
+joined-later : (n width : ℕ) (s w : Stream) (i : ℕ) → byte_at (Drawn (joined_bytes n s w) width) (n + i) ≡ byte_at w i
 unfolding byte_at
-joined-covers_after n s w m wide =
+joined-later n width s w i = let back : n + i - n ≡ i = omega arith in joined-high n s w (n + i) (omega arith) ∙ ap (byte_at w) back
+
+joined-covers : (n width : ℕ) (s w : Stream) → span s ≤ width → Covers s (Drawn (joined_bytes n s w) width) 0 n
+unfolding byte_at
+joined-covers n width s w wide = record { bytes = λ k from to. joined-low n s w k to; wide = omega (arith, wide) }
+
+pub joined_wide : (xs ys : List Entry) (s w : Stream) (width : ℕ) → span s + span w ≤ width → NoneMissed xs → NoneMissed ys → Agrees xs s → Agrees ys w
+    → JoinedAgree xs ys s w width
+joined_wide xs ys s w width wide none never one next =
+    let n = place_at xs s 0 in
+    let m = place_at ys w 0 in
+    let v = joined_stream xs s w width in
+    let covers : Covers w (dropped n v) 0 m =
+    record { bytes = λ k from to. dropped-byte n v k ∙ joined-later n width s w k; wide = omega (arith, wide) }
+    in
+    let before = fits-also xs s v 0 n none one.fit (omega arith) (joined-covers n width s w (omega (arith, wide))) in
+    let after = fits-also ys w (dropped n v) 0 m never next.fit (omega arith) covers in
+    let here : n + 0 ≡ place_at xs v 0 = omega (arith, before.1) in
     record {
-      bytes = λ k from to. let back : n + k - n ≡ k = omega arith in joined-high n s w (n + k) (omega arith) ∙ ap (byte_at w) back;
-      wide = omega (arith, wide);
+      agrees = record {
+        is = (joined-small n s w one.is next.is, joined-holds n width s w wide one.is next.is);
+        fit = fit_both xs ys v 0 before.0 (subst (λ (k : ℕ). AllFit ys v k) here (all-whole ys v n 0 after.0));
+      };
+      first = before.1;
+      place = place_both xs ys v 0 ∙ ap (place_at ys v) (sym here) ∙ place-dropped ys v n 0 ∙ ap (λ (k : ℕ). n + k) after.1;
+      later = λ i. joined-later n width s w i;
     }
 
--- A stream that agrees with one log, up to its end, and then one that agrees with another: it agrees with both.
-pub joined_agree : (xs ys : List Entry) (s w : Stream) → span s ≡ 280 → span w ≡ 280 → NoneMissed xs → NoneMissed ys → Agrees xs s → Agrees ys w
-    → (bytes : ℕ → ℕ) × Agrees (xs ++ ys) (Drawn bytes 560)
-joined_agree xs ys s w long wide none never one later =
-    let n = place_at xs s 0 in
-    let v = Drawn (joined_bytes n s w) 560 in
-    let first = fits-also xs s v 0 n none one.fit (omega arith) (joined-covers n s w long) in
-    let m = place_at ys w 0 in
-    let second = fits-also ys w (dropped n v) 0 m never later.fit (omega arith) (joined-covers_after n s w m wide) in
-    let after : n + 0 ≡ place_at xs v 0 = omega (arith, first.1) in (
-      joined_bytes n s w,
-      record {
-        is = (joined-small n s w one.is later.is, joined-holds n s w one.is later.is long wide);
-        fit = fit_both xs ys v 0 first.0 (subst (λ (k : ℕ). AllFit ys v k) after (all-whole ys v n 0 second.0));
-      },
-    )
+pub joined_agree : (xs ys : List Entry) (s w : Stream) → NoneMissed xs → NoneMissed ys → Agrees xs s → Agrees ys w
+    → (bytes : ℕ → ℕ) × Agrees (xs ++ ys) (Drawn bytes (span s + span w))
+joined_agree xs ys s w none never one next =
+    (joined_bytes (place_at xs s 0) s w, (joined_wide xs ys s w (span s + span w) (omega arith) none never one next).agrees)
 
 -- Turns of two actions.
 
@@ -377,7 +413,7 @@ pub arrives_by : (w : Walk) (nodes after : Nodes) (middle : Middle) (reaches : R
 arrives_by w nodes after middle reaches s of stream agrees =
     let uses = uses_moves w.one w.two s.field of.two in
     let b = reaches.begins s uses.first uses.second of.offers.stands (plays_turn of.offers.offered uses.asked) uses.uses_one uses.uses_two stream agrees in
-    record { rest = reaches.rest; kept = reaches.kept; here = b.here; at = record { within = b.within; ready = b.ready }; on = b.on; rests = b.rests }
+    record { rest = lefts.Second reaches.rest; kept = reaches.kept; here = b.here; at = record { within = b.within; ready = b.ready }; on = b.on; rests = b.rests }
 
 -- It does where the log ends.
 pub arrives_there : (w : Walk) (nodes after : Nodes) (middle : Middle) (reaches : Reaches w nodes after middle) (s : State) (of : OffersTwo w s)
@@ -388,14 +424,15 @@ arrives_there w nodes after middle reaches s of stream agrees =
     (reaches.begins s uses.first uses.second of.offers.stands (plays_turn of.offers.offered uses.asked) uses.uses_one uses.uses_two stream agrees).stands
 
 -- What a way leads to, on one stream.
-pub follows_from : (s : State) (one two : Choice) (bytes : List ℕ) (rest : Option Rest) (log : List Entry) (parts : Parts) → LeadsFrom s one two bytes rest log parts
+pub follows_from : (s : State) (one two : Choice) (bytes : List ℕ) (rest : Option Left) (log : List Entry) (parts : Parts) → LeadsFrom s one two bytes rest log parts
     → (stream : Stream) → Agrees log stream → FollowsFrom s one two bytes rest stream parts
 follows_from s one two bytes None log parts leads stream agrees = leads stream agrees
 follows_from s one two bytes (Some rest) log parts leads stream agrees = leads stream agrees
 
--- The rest of an update has a tree, so it leads to the same from the beginning of what is left of the stream.
-pub rest-tree : (rest : Rest) (terms : Terms) → HasTree (rest_of rest (ruling_of terms))
-rest-tree rest terms = by rest.is_cut
+-- What is left of an update has a tree, so it leads to the same from the beginning of what is left of the stream.
+
+second-tree : (rest : Rest) (terms : Terms) → HasTree (rest_of rest (ruling_of terms))
+second-tree rest terms = by rest.is_cut
   where
     by : (b : Bool) → HasTree (λ p. if b then p else close_update (ruling_of terms) (second_action (ruling_of terms) rest.second rest.pick p))
     by true = drawless-tree (λ p s n. refl)
@@ -403,26 +440,41 @@ rest-tree rest terms = by rest.is_cut
         after-tree (do_parts-tree (ruling_of terms) (Acts rest.second rest.pick ∷ Suffers rest.second ∷ []) (ruling-tree terms))
         (close_update-tree (ruling_of terms) (ruling-tree terms))
 
-ready_again : (rest : Rest) (terms : Terms) (p : Progress) → IsReady rest terms p → IsReady rest terms (restarted p)
-ready_again rest terms p ready =
-    record {
-      skips = ready.skips;
-      uncut = ready.uncut;
-      going = ready.going;
-      plan = ready.plan;
-      fits = ready.fits;
-      follows = record {
-        field = ready.follows.field;
-        tested = ready.follows.tested;
-        stream = dropped-is p.drawn p.stream ready.follows.stream;
-        holds = ready.follows.holds;
-      };
-    }
+pub suffering-tree : (s : Side) → HasTree (suffering s end_turn)
+suffering-tree s = choose-tree (λ p w n. refl) stay-tree (then-tree (residual-tree s) (choose-tree (λ p w n. refl) stay-tree end_turn-tree))
 
-resumed : (s : State) (one two : Choice) (bytes : List ℕ) (rest : Rest) (p : Progress) (parts : Parts) → IsAt s bytes rest p
-    → FollowsFrom s one two bytes (Some rest) (dropped p.drawn p.stream) parts → AreOf s parts untold (rest_of rest (ruling_of s.terms) p)
+pub rest-tree : (rest : Left) (terms : Terms) → HasTree (left_of rest (ruling_of terms))
+rest-tree (lefts.Second rest) terms = second-tree rest terms
+rest-tree (lefts.Roll s roll) terms =
+    after-tree (then-tree (from_roll-tree (ruling_of terms) s roll (ruling-tree terms)) (suffering-tree s)) (close_update-tree (ruling_of terms) (ruling-tree terms))
+
+-- A battle that draws from a place of another stream is at the same position.
+pub ready_on : (rest : Left) (terms : Terms) (p : Progress) (stream : Stream) (n : ℕ) → IsStream stream → IsReadyFor rest terms p
+    → IsReadyFor rest terms (drawing_from stream n p)
+ready_on (lefts.Second rest) terms p stream n is ready = λ uncut.
+    let at = ready uncut in
+    record {
+      skips = at.skips;
+      uncut = at.uncut;
+      going = at.going;
+      plan = at.plan;
+      fits = at.fits;
+      follows = record { field = at.follows.field; tested = at.follows.tested; stream = is; holds = at.follows.holds };
+    }
+ready_on (lefts.Roll s roll) terms p stream n is at =
+    record { skips = at.skips; going = at.going; action = at.action; usual = at.usual; damage = at.damage }
+
+ready_again : (rest : Left) (terms : Terms) (p : Progress) → IsReadyFor rest terms p → IsReadyFor rest terms (restarted p)
+ready_again (lefts.Second rest) terms p ready = λ uncut.
+    ready_on (lefts.Second rest) terms p (dropped p.drawn p.stream) 0 (dropped-is p.drawn p.stream (ready uncut).follows.stream) ready uncut
+ready_again (lefts.Roll s roll) terms p at =
+    record { skips = at.skips; going = at.going; action = at.action; usual = at.usual; damage = at.damage }
+
+-- What follows from a position on the rest of a stream follows there on the whole.
+pub resumed : (s : State) (one two : Choice) (bytes : List ℕ) (rest : Left) (p : Progress) (parts : Parts) → IsAt s bytes rest p
+    → FollowsFrom s one two bytes (Some rest) (dropped p.drawn p.stream) parts → AreOf s parts untold (left_of rest (ruling_of s.terms) p)
 resumed s one two bytes rest p parts at follows =
-    let again : IsAt s bytes rest (restarted p) = record { within = at.within; ready = λ uncut. ready_again rest s.terms p (at.ready uncut) } in
+    let again : IsAt s bytes rest (restarted p) = record { within = at.within; ready = ready_again rest s.terms p at.ready } in
     let of = follows (restarted p) again refl refl in
     subst (λ (q : Progress). AreOf s parts untold q) (sym (phase-restarted (rest-tree rest s.terms) p)) (record { within = of.within; written = of.written })
 
@@ -430,24 +482,12 @@ resumed s one two bytes rest p parts at follows =
 pub follows_arrived : (w : Walk) (s : State) (stream : Stream) (middle : Middle) (parts : Parts) → OffersTwo w s → (a : Arrives s w.one w.two stream middle)
     → FollowsFrom s w.one w.two middle.bytes middle.rest (dropped a.here.drawn stream) parts → Follows s w.one w.two stream parts untold
 follows_arrived w s stream middle parts of a follows =
-    let From = λ (rest : Option Rest) (v : Stream). FollowsFrom s w.one w.two middle.bytes rest (dropped a.here.drawn v) parts in
+    let From = λ (rest : Option Left) (v : Stream). FollowsFrom s w.one w.two middle.bytes rest (dropped a.here.drawn v) parts in
     let here : From (Some a.rest) a.here.stream =
-    subst (λ (v : Stream). From (Some a.rest) v) (sym a.on) (subst (λ (rest : Option Rest). From rest stream) a.kept follows)
+    subst (λ (v : Stream). From (Some a.rest) v) (sym a.on) (subst (λ (rest : Option Left). From rest stream) a.kept follows)
     in
     record {
       by_turn = λ asked.
           subst (λ (q : Progress). AreOf s parts untold q) (sym a.rests) (resumed s w.one w.two middle.bytes a.rest a.here parts a.at here);
       by_step = λ apart. absurd (apart (uses_moves w.one w.two s.field of.two).asked);
     }
-
--- So a way to a position and one from there lead to what follows on each stream that agrees with both, one after the other.
-pub leads_both : (w : Walk) (nodes after : Nodes) (middle : Middle) (reaches : Reaches w nodes after middle) (log : List Entry) (parts : Parts) (s : State) → OffersTwo w s
-    → LeadsFrom s w.one w.two middle.bytes middle.rest log parts → Leads s w.one w.two (reaches.way.log ++ log) parts untold
-leads_both w nodes after middle reaches log parts s of leads stream agrees =
-    let one = agrees_first reaches.way.log log stream agrees in
-    let later = agrees_then reaches.way.log log stream agrees in
-    let a = arrives_by w nodes after middle reaches s of stream one in
-    let at = arrives_there w nodes after middle reaches s of stream one in
-    follows_arrived w s stream middle parts of a
-    (follows_from s w.one w.two middle.bytes middle.rest log parts leads (dropped a.here.drawn stream)
-    (subst (λ (n : ℕ). Agrees log (dropped n stream)) at later))

@@ -16,7 +16,8 @@ use Rattle.gen1_machine.proofs.Shares.{shares_are_probabilities}
 use Rattle.gen1_layout.specs.Parts.{Parts, joined}
 use Rattle.gen1_layout.specs.Within.{blocks_of, setting_of, state_in}
 use Rattle.gen1_engine.proofs.Making.{both_move, plays_turn}
-use Rattle.gen1_outcomes.specs.declared.beginning.Rest.{Rest}
+use Rattle.gen1_outcomes.specs.declared.beginning.Left.{Left}
+use Rattle.gen1_outcomes.specs.declared.beginning.Left.TheVariants as lefts
 use Rattle.gen1_outcomes.specs.declared.fault.OutcomesFault.{OutcomesFault}
 use Rattle.gen1_outcomes.specs.declared.merging.Tally.{Tally}
 use Rattle.gen1_outcomes.specs.declared.middles.Middle.{Middle}
@@ -27,7 +28,7 @@ use Rattle.gen1_outcomes.specs.declared.options.OutcomeOptions.{OutcomeOptions}
 use Rattle.gen1_outcomes.specs.declared.outcomes.Outcomes.{Outcomes}
 use Rattle.gen1_outcomes.specs.declared.script.Script.{Script}
 use Rattle.gen1_outcomes.specs.declared.successor.Successor.{Successor}
-use Rattle.gen1_outcomes.specs.Beginning.{IsReady, rest_of}
+use Rattle.gen1_outcomes.specs.Beginning.{left_of}
 use Rattle.gen1_outcomes.specs.Complete.{FollowsFrom, GoesBy, IsExact, ListsFrom, Offers, OffersTwo, place_before}
 use Rattle.gen1_outcomes.specs.Following.{Walk, turn_on}
 use Rattle.gen1_outcomes.specs.Listing.{battle_at}
@@ -41,7 +42,7 @@ use Rattle.gen1_outcomes.specs.Weights.{AddsPart, AddsPending, AddsUpdate, AreAl
 use Rattle.gen1_outcomes.proofs.Complete.{AreKnown, ListsFromEach, all_noted, some_middle}
 use Rattle.gen1_outcomes.proofs.Fractions.{equal-refl, equal-sym, equal-trans, nothing-plus, plus-assoc, plus-comm, plus-equal, plus-nothing, plus-positive, plus-times, sum-plus, times-equal, times-positive, unit-times}
 use Rattle.gen1_outcomes.proofs.Lists.{same_or}
-use Rattle.gen1_outcomes.proofs.Shifts.{arrives_by, arrives_there, dropped, dropped-is, phase-restarted, rest-tree, tree-dropped, uses_moves}
+use Rattle.gen1_outcomes.proofs.Shifts.{arrives_by, arrives_there, dropped, dropped-is, phase-restarted, ready_on, rest-tree, tree-dropped, uses_moves}
 use Rattle.gen1_outcomes.proofs.Told.{shares_by_test}
 use Rattle.gen1_outcomes.proofs.Walking.{some_node}
 use Rattle.gen1_outcomes.proofs.Weights.{part_as, since_all}
@@ -51,23 +52,23 @@ use Rattle.gen1_outcomes.proofs.Weighing.{IsSpent, IsWeighed, IsWhole, LeadsRigh
 abbrev pub hits_of : Walk → State → (Field → Bool) → Stream → Bool
 hits_of w s passes stream = passes (turn_on s w.one w.two stream 0).field
 
-some_same : (a b : Rest) → Some a ≡ Some b → a ≡ b
+some_same : (a b : Left) → Some a ≡ Some b → a ≡ b
 some_same a b e = cc
 
 -- From a place of a stream the rest of a turn leads to what it leads to on the rest of the stream from its beginning.
-rest_dropped : (rest : Rest) (s : State) (p : Progress) (stream : Stream) → p.stream ≡ stream
-    → (rest_of rest (ruling_of s.terms) p).field ≡ (rest_of rest (ruling_of s.terms) (drawing_from (dropped p.drawn stream) 0 p)).field
+rest_dropped : (rest : Left) (s : State) (p : Progress) (stream : Stream) → p.stream ≡ stream
+    → (left_of rest (ruling_of s.terms) p).field ≡ (left_of rest (ruling_of s.terms) (drawing_from (dropped p.drawn stream) 0 p)).field
 rest_dropped rest s p stream on =
     ap (λ (q : Progress). q.field) (phase-restarted (rest-tree rest s.terms) p)
-    ∙ ap (λ (v : Stream). (rest_of rest (ruling_of s.terms) (drawing_from (dropped p.drawn v) 0 p)).field) on
+    ∙ ap (λ (v : Stream). (left_of rest (ruling_of s.terms) (drawing_from (dropped p.drawn v) 0 p)).field) on
 
-tree_dropped : (t : Tree) (stream : Stream) (n : ℕ) → (leads_to t stream n).field ≡ (leads_to t (dropped n stream) 0).field
+pub tree_dropped : (t : Tree) (stream : Stream) (n : ℕ) → (leads_to t stream n).field ≡ (leads_to t (dropped n stream) 0).field
 tree_dropped t stream n =
     let same : n ≡ n + 0 = omega arith in
     ap (λ (k : ℕ). (leads_to t stream k).field) same ∙ ap (λ (q : Progress). q.field) (tree-dropped t stream n 0)
 
 -- The tree from a position leads right on a stream on which the turn arrives there.
-arrived_right : (w : Walk) (s : State) (passes : Field → Bool) (stream : Stream) (middle : Middle) (bytes : List ℕ) (rest : Rest) → IsStream stream
+arrived_right : (w : Walk) (s : State) (passes : Field → Bool) (stream : Stream) (middle : Middle) (bytes : List ℕ) (rest : Left) → IsStream stream
     → middle.bytes ≡ bytes → middle.rest ≡ Some rest
     → (a : Arrives s w.one w.two stream middle) (h : HasRest s passes bytes rest) → IsAlikeFrom s passes bytes rest
     → passes (leads_to h.tree stream a.here.drawn).field ≡ hits_of w s passes stream
@@ -76,38 +77,40 @@ arrived_right w s passes stream middle bytes rest is same kept a h alike =
     let v = dropped n stream in
     let whose : a.rest ≡ rest = some_same a.rest rest (sym a.kept ∙ kept) in
     let at : IsAt s bytes rest a.here =
-    subst (λ (r : Rest). IsAt s bytes r a.here) whose (subst (λ (x : List ℕ). IsAt s x a.rest a.here) same a.at)
+    subst (λ (r : Left). IsAt s bytes r a.here) whose (subst (λ (x : List ℕ). IsAt s x a.rest a.here) same a.at)
     in
-    let turn : (turn_on s w.one w.two stream 0).field ≡ (rest_of rest (ruling_of s.terms) (drawing_from v 0 a.here)).field =
+    let turn : (turn_on s w.one w.two stream 0).field ≡ (left_of rest (ruling_of s.terms) (drawing_from v 0 a.here)).field =
     ap (λ (q : Progress). q.field) a.rests ∙ rest_dropped a.rest s a.here stream a.on
-    ∙ ap (λ (r : Rest). (rest_of r (ruling_of s.terms) (drawing_from v 0 a.here)).field) whose
+    ∙ ap (λ (r : Left). (left_of r (ruling_of s.terms) (drawing_from v 0 a.here)).field) whose
     in
     ap passes (tree_dropped h.tree stream n ∙ sym (ap (λ (q : Progress). q.field) (h.leads v 0)))
     ∙ alike h.here a.here h.at at v (dropped-is n stream is)
     ∙ sym (ap passes turn)
 
--- A position that a way reaches has a tree.
-rest_reached : (w : Walk) (nodes after : Nodes) (middle : Middle) (reaches : Reaches w nodes after middle) (s : State) → OffersTwo w s → (passes : Field → Bool)
-    → HasRest s passes middle.bytes reaches.rest
-rest_reached w nodes after middle reaches s of passes =
-    let a = arrives_by w nodes after middle reaches s of (stream_of scripted (script_of reaches.path)) reaches.way.own in
-    let whose : a.rest ≡ reaches.rest = some_same a.rest reaches.rest (sym a.kept ∙ reaches.kept) in
-    let t = rest-tree a.rest s.terms in
-    let some = (shares_are_probabilities (t.tree a.here)).some in
+-- A position at which a battle is has a tree.
+pub rest_at : (s : State) (passes : Field → Bool) (bytes : List ℕ) (rest : Left) (p : Progress) → IsAt s bytes rest p → HasRest s passes bytes rest
+rest_at s passes bytes rest p at =
+    let t = rest-tree rest s.terms in
+    let some = (shares_are_probabilities (t.tree p)).some in
     let x = some.1.1 passes in
-    let h : HasRest s passes middle.bytes a.rest =
     record {
-      here = a.here;
-      at = a.at;
-      tree = t.tree a.here;
-      leads = λ stream n. t.leads a.here stream n;
+      here = p;
+      at = at;
+      tree = t.tree p;
+      leads = λ stream n. t.leads p stream n;
       whole = some.0;
       share = x.0;
       some = some.1.0;
       is = x.1;
     }
-    in
-    subst (λ (r : Rest). HasRest s passes middle.bytes r) whose h
+
+-- So has one that a way reaches.
+rest_reached : (w : Walk) (nodes after : Nodes) (middle : Middle) (reaches : Reaches w nodes after middle) (s : State) → OffersTwo w s → (passes : Field → Bool)
+    → HasRest s passes middle.bytes (lefts.Second reaches.rest)
+rest_reached w nodes after middle reaches s of passes =
+    let a = arrives_by w nodes after middle reaches s of (stream_of scripted (script_of reaches.path)) reaches.way.own in
+    let whose : a.rest ≡ lefts.Second reaches.rest = some_same a.rest (lefts.Second reaches.rest) (sym a.kept ∙ reaches.kept) in
+    subst (λ (r : Left). HasRest s passes middle.bytes r) whose (rest_at s passes middle.bytes a.rest a.here a.at)
 
 -- Sums of parts.
 
@@ -203,7 +206,7 @@ pending_same s passes middles x y e is = record { part = is.part; each = is.each
 -- A position that is added has a share, and its part becomes one of the sum.
 record GetsPart (s : State) (passes : Field → Bool) (middle : Middle) (new : Middles) (y : Fraction) : Type 0 where
   bytes : List ℕ
-  rest : Rest
+  rest : Left
   from : HasRest s passes bytes rest
   same : middle.bytes ≡ bytes
   kept : middle.rest ≡ Some rest
@@ -213,7 +216,7 @@ record GetsPart (s : State) (passes : Field → Bool) (middle : Middle) (new : M
   also : (past : Middle) → (get_or new.list place past).rest ≡ Some rest
   pending : ArePending s passes new (plus y (times (of_chance middle.chance) (share_of from)))
 
-put_part : (s : State) (passes : Field → Bool) (middle : Middle) (old new : Middles) (y : Fraction) (rest : Rest) → IsPut middle old new → middle.rest ≡ Some rest
+put_part : (s : State) (passes : Field → Bool) (middle : Middle) (old new : Middles) (y : Fraction) (rest : Left) → IsPut middle old new → middle.rest ≡ Some rest
     → HasRest s passes middle.bytes rest → ArePending s passes old y → GetsPart s passes middle new y
 put_part s passes middle old new y rest put kept h pending =
     let x = times (of_chance middle.chance) (share_of h) in
@@ -321,14 +324,14 @@ joins_part s passes middle old new y joins pending =
       };
     }
 
-added_part : (s : State) (passes : Field → Bool) (middle : Middle) (old new : Middles) (y : Fraction) (rest : Rest) → IsAdded middle old new → middle.rest ≡ Some rest
+added_part : (s : State) (passes : Field → Bool) (middle : Middle) (old new : Middles) (y : Fraction) (rest : Left) → IsAdded middle old new → middle.rest ≡ Some rest
     → HasRest s passes middle.bytes rest → ArePending s passes old y → GetsPart s passes middle new y
 added_part s passes middle old new y rest (inl joins) kept h pending = joins_part s passes middle old new y joins pending
 added_part s passes middle old new y rest (inr put) kept h pending = put_part s passes middle old new y rest put kept h pending
 
 -- Positions that are alike stay so in a shorter list.
 alike_as : (s : State) (passes : Field → Bool) (old new : Middle) → new.bytes ≡ old.bytes → new.rest ≡ old.rest
-    → ((rest : Rest) → new.rest ≡ Some rest → IsAlikeFrom s passes new.bytes rest) → (rest : Rest) → old.rest ≡ Some rest → IsAlikeFrom s passes old.bytes rest
+    → ((rest : Left) → new.rest ≡ Some rest → IsAlikeFrom s passes new.bytes rest) → (rest : Left) → old.rest ≡ Some rest → IsAlikeFrom s passes old.bytes rest
 alike_as s passes old new bytes kept alike rest is =
     subst (λ (x : List ℕ). IsAlikeFrom s passes x rest) bytes (alike rest (kept ∙ is))
 
@@ -350,7 +353,7 @@ alike_before s passes middle old new (inr put) alike k past rest lt =
     (λ r. alike k past r (omega (arith, lt, put.length))) rest
 
 -- A way whose draws end with those that are noted: each stream that goes by them agrees with its log, which ends where they do.
-ends_at : (script : Script) (nodes after : Nodes) (way : IsLogged script nodes after) → IsExact nodes.options → after.too_large ≡ false
+pub ends_at : (script : Script) (nodes after : Nodes) (way : IsLogged script nodes after) → IsExact nodes.options → after.too_large ≡ false
     → nodes.at ≡ 0 → AreKnown nodes → after.len ≤ after.at → (stream : Stream) → IsStream stream → GoesBy after stream
     → Agrees way.log stream × (place_at way.log stream 0 ≡ place_before (asked_at after) stream after.len)
 ends_at script nodes after way exact fits at known full stream is goes =
@@ -477,7 +480,7 @@ shared_way w nodes after middle old room new first t mid kept ws xs ys zs reache
     m = (keeps s of battle passes test).1 (plus x g.here) g.left g.list g.pending
 
     got : GetsPart s passes middle new m.left
-    got = added_part s passes middle room new m.left reaches.rest added reaches.kept (rest_reached w nodes after middle reaches s of passes) m.pending
+    got = added_part s passes middle room new m.left (lefts.Second reaches.rest) added reaches.kept (rest_reached w nodes after middle reaches s of passes) m.pending
 
     along : AreAlikeFrom s passes new → AreAlikeFrom s passes old
     along alike = (keeps s of battle passes test).0 (alike_before s passes middle room new added alike)
@@ -553,24 +556,13 @@ shared_all w nodes middles first t final ws xs ys done past adds s of battle pas
 
 -- Kept positions that are played on from.
 
-ready_on : (rest : Rest) (s : State) (p : Progress) (stream : Stream) → IsStream stream → IsReady rest s.terms p → IsReady rest s.terms (drawing_from stream 0 p)
-ready_on rest s p stream is ready =
-    record {
-      skips = ready.skips;
-      uncut = ready.uncut;
-      going = ready.going;
-      plan = ready.plan;
-      fits = ready.fits;
-      follows = record { field = ready.follows.field; tested = ready.follows.tested; stream = is; holds = ready.follows.holds };
-    }
-
-at_on : (s : State) (bytes : List ℕ) (rest : Rest) (p : Progress) (stream : Stream) → IsStream stream → IsAt s bytes rest p → IsAt s bytes rest (drawing_from stream 0 p)
-at_on s bytes rest p stream is at = record { within = at.within; ready = λ uncut. ready_on rest s p stream is (at.ready uncut) }
+pub at_on : (s : State) (bytes : List ℕ) (rest : Left) (p : Progress) (stream : Stream) → IsStream stream → IsAt s bytes rest p → IsAt s bytes rest (drawing_from stream 0 p)
+at_on s bytes rest p stream is at = record { within = at.within; ready = ready_on rest s.terms p stream 0 is at.ready }
 
 -- The battle that follows from a position is that of each battle that is there.
-same_follows : (s : State) (one two : Choice) (bytes : List ℕ) (rest : Rest) (stream : Stream) (parts : Parts) (p : Progress) → IsStream stream → IsAt s bytes rest p
+same_follows : (s : State) (one two : Choice) (bytes : List ℕ) (rest : Left) (stream : Stream) (parts : Parts) (p : Progress) → IsStream stream → IsAt s bytes rest p
     → FollowsFrom s one two bytes (Some rest) stream parts
-    → joined (blocks_of (state_in (setting_of s) (rest_of rest (ruling_of s.terms) (drawing_from stream 0 p)).field)) ≡ joined parts
+    → joined (blocks_of (state_in (setting_of s) (left_of rest (ruling_of s.terms) (drawing_from stream 0 p)).field)) ≡ joined parts
 same_follows s one two bytes rest stream parts p is at follows =
     ap joined (sym (follows (drawing_from stream 0 p) (at_on s bytes rest p stream is at) refl refl).within.same)
 
@@ -585,14 +577,14 @@ told_same s battle passes test f g same = by (passes f) (passes g) refl refl
     by false true d e = absurd (false≢true (sym d ∙ test.passed f (same ∙ test.of g e)))
 
 -- Where a battle follows from a position on each stream, all battles there are alike.
-alike_listed : (w : Walk) (s : State) (battle : Parts) (passes : Field → Bool) (middle : Middle) (rest : Rest) (count : ℕ) (xs : List Successor) → IsTestOf s battle passes
+alike_listed : (w : Walk) (s : State) (battle : Parts) (passes : Field → Bool) (middle : Middle) (rest : Left) (count : ℕ) (xs : List Successor) → IsTestOf s battle passes
     → middle.rest ≡ Some rest → ListsFrom w middle s count xs → IsAlikeFrom s passes middle.bytes rest
 alike_listed w s battle passes middle rest count xs test kept lists p q at also stream is =
     let l = lists stream is in
     let follows : FollowsFrom s w.one w.two middle.bytes (Some rest) stream l.battle =
-    subst (λ (r : Option Rest). FollowsFrom s w.one w.two middle.bytes r stream l.battle) kept l.is
+    subst (λ (r : Option Left). FollowsFrom s w.one w.two middle.bytes r stream l.battle) kept l.is
     in
-    let r = rest_of rest (ruling_of s.terms) in
+    let r = left_of rest (ruling_of s.terms) in
     told_same s battle passes test (r (drawing_from stream 0 p)).field (r (drawing_from stream 0 q)).field
     (same_follows s w.one w.two middle.bytes rest stream l.battle p is at follows
     ∙ sym (same_follows s w.one w.two middle.bytes rest stream l.battle q is also follows))
@@ -603,10 +595,10 @@ alike_each w s battle passes middles count xs of test each k past rest lt kept =
     alike_listed w s battle passes (get_or middles.list k past) rest count xs test kept (each k past lt s of.offers)
 
 -- The tree of a kept position leads to the battle that follows from it.
-tree_tells : (w : Walk) (s : State) (battle : Parts) (passes : Field → Bool) (bytes : List ℕ) (rest : Rest) → IsTestOf s battle passes → (h : HasRest s passes bytes rest)
+pub tree_tells : (w : Walk) (s : State) (battle : Parts) (passes : Field → Bool) (bytes : List ℕ) (rest : Left) → IsTestOf s battle passes → (h : HasRest s passes bytes rest)
     → IsTreeFrom s w.one w.two bytes (Some rest) passes battle h.tree
 tree_tells w s battle passes bytes rest test h stream is parts follows =
-    let q = rest_of rest (ruling_of s.terms) (drawing_from stream 0 h.here) in
+    let q = left_of rest (ruling_of s.terms) (drawing_from stream 0 h.here) in
     let same = same_follows s w.one w.two bytes rest stream parts h.here is h.at follows in
     let leads : passes q.field ≡ passes (leads_to h.tree stream 0).field = ap (λ (p : Progress). passes p.field) (h.leads stream 0) in
     record {
@@ -652,7 +644,7 @@ adds_more w middles n d first t new ws xs ys lt within adds before s of battle p
 
     from : IsTreeFrom s w.one w.two middle.bytes middle.rest passes battle is.from.tree
     from =
-        subst (λ (r : Option Rest). IsTreeFrom s w.one w.two middle.bytes r passes battle is.from.tree) (sym (is.kept d))
+        subst (λ (r : Option Left). IsTreeFrom s w.one w.two middle.bytes r passes battle is.from.tree) (sym (is.kept d))
         (subst (λ (b : List ℕ). IsTreeFrom s w.one w.two b (Some is.rest) passes battle is.from.tree) (sym (is.same d)) (tree_tells w s battle passes is.bytes is.rest test is.from))
 
 pub adds_all : (w : Walk) (middles : Middles) (first t : Tally) (ws xs : List Successor) → ListsFromEach w middles.len middles.list t.count xs
@@ -746,7 +738,7 @@ weight_is t xs k past whole share distinct lt has =
     ]
 
 -- A test of the bytes of a battle.
-bytes_test : (s : State) (battle : Parts) → IsTestOf s battle (are_of s battle)
+pub bytes_test : (s : State) (battle : Parts) → IsTestOf s battle (are_of s battle)
 bytes_test s battle =
     let bytes = λ (f : Field). joined (blocks_of (state_in (setting_of s) f)) in
     record { passed = λ f. (bytes_eq-Decides (bytes f) (joined battle)).1; of = λ f. (bytes_eq-Decides (bytes f) (joined battle)).0 }

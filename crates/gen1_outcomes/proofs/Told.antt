@@ -1,4 +1,4 @@
--- Trees that lead to fields of which a test says the same have equal shares for it.
+-- Trees that lead to fields of which tests say the same have equal shares for them.
 --
 -- Each field that a tree leads to is changed to one that says by its turn alone whether the test was passed. What the trees lead to then is
 -- the same on each stream.
@@ -58,13 +58,18 @@ leads-marked f passes (Search test found none) s n =
     by (Some m) some none = some m
     by None some none = none
 
+-- The trees may have a test each.
+pub shares_by_tests : (t u : Tree) (passes test : Field → Bool) (whole share total part : ℕ) → ((s : Stream) → IsStream s → passes (leads_to t s 0).field ≡ test (leads_to u s 0).field)
+    → IsShare t passes whole share → IsShare u test total part → share * total ≡ part * whole
+shares_by_tests t u passes test whole share total part same h k =
+    let f = (leads_to t (Drawn (λ i. 0) 1) 0).field in
+    shares_depend_on_fields (all_marked f passes t) (all_marked f test u)
+    (λ s is. leads-marked f passes t s 0 ∙ ap (marked f) (same s is) ∙ sym (leads-marked f test u s 0))
+    is_marked whole share total part (share-marked f passes t whole share h) (share-marked f test u total part k)
+
 pub shares_by_test : (t u : Tree) (passes : Field → Bool) (whole share total part : ℕ) → ((s : Stream) → IsStream s → passes (leads_to t s 0).field ≡ passes (leads_to u s 0).field)
     → IsShare t passes whole share → IsShare u passes total part → share * total ≡ part * whole
-shares_by_test t u passes whole share total part same h k =
-    let f = (leads_to t (Drawn (λ i. 0) 1) 0).field in
-    shares_depend_on_fields (all_marked f passes t) (all_marked f passes u)
-    (λ s is. leads-marked f passes t s 0 ∙ ap (marked f) (same s is) ∙ sym (leads-marked f passes u s 0))
-    is_marked whole share total part (share-marked f passes t whole share h) (share-marked f passes u total part k)
+shares_by_test t u passes = shares_by_tests t u passes passes
 
 -- A share of a multiple.
 pub over-scaled : (test : ℕ → Bool) (f : ℕ → ℕ) (k : ℕ) → sum_over test (λ b. f b * k) ≡ sum_over test f * k

@@ -25,7 +25,7 @@ use Rattle.gen1_engine.proofs.Making.{both_move, goes_on}
 use Rattle.gen1_switching.proofs.Stepped.{step_accepts}
 use Rattle.gen1_layout.specs.Parts.{Parts, SideParts, joined}
 use Rattle.gen1_layout.specs.Within.{blocks_of, setting_of, state_in}
-use Rattle.gen1_outcomes.specs.declared.beginning.Rest.{Rest}
+use Rattle.gen1_outcomes.specs.declared.beginning.Left.{Left}
 use Rattle.gen1_outcomes.specs.declared.byte_set.ByteSet.{ByteSet}
 use Rattle.gen1_outcomes.specs.declared.log.Entry.{Entry}
 use Rattle.gen1_outcomes.specs.declared.log.Entry.TheVariants.{Draw, Found, Missed}
@@ -37,22 +37,21 @@ use Rattle.gen1_outcomes.specs.declared.nodes.Chance.{Chance}
 use Rattle.gen1_outcomes.specs.declared.nodes.Nodes.{Nodes}
 use Rattle.gen1_outcomes.specs.declared.options.OutcomeOptions.{OutcomeOptions}
 use Rattle.gen1_outcomes.specs.declared.successor.Successor.{Successor}
-use Rattle.gen1_outcomes.specs.Complete.{FollowsFrom, GoesBy, IsExact, Offers, place_before}
+use Rattle.gen1_outcomes.specs.Complete.{GoesBy, IsExact, Offers, place_before}
 use Rattle.gen1_outcomes.specs.Following.{Walk, turn_on}
 use Rattle.gen1_outcomes.specs.Listing.{KeepsFirst, battle_at}
 use Rattle.gen1_outcomes.specs.Logs.{Agrees, AllFit, NotesAll, NotesEntry}
 use Rattle.gen1_outcomes.specs.Merging.{AreDistinct, IsIndexed}
-use Rattle.gen1_outcomes.specs.Middles.{PlaysOn}
+use Rattle.gen1_outcomes.specs.Middles.{PlaysFrom, PlaysOn}
 use Rattle.gen1_outcomes.specs.Nodes.{AllDone, IsChance, LeadsOn, Notes, Passes, asked_at}
 use Rattle.gen1_outcomes.specs.Script.{script_of, scripted}
 use Rattle.gen1_outcomes.specs.Shares.{Adds, GetsShare, weight_at, weight_before}
-use Rattle.gen1_outcomes.specs.Weights.{AddsPart, AddsUpdate, AreEqual, Fraction, HasPart, IsNoPart, IsTestOf, IsTreeFrom, Tells, nothing, of_chance, plus, times, unit}
-use Rattle.gen1_outcomes.proofs.Complete.{AreKnown, IsGoingFrom, all_noted}
-use Rattle.gen1_outcomes.proofs.Fractions.{equal-refl, equal-sym, equal-trans, grows-plus, plus-assoc, plus-equal, plus-nothing, same-equal, times-equal, times-nothing, times-plus, times-positive, times-unit, no_parts, plus-positive}
+use Rattle.gen1_outcomes.specs.Weights.{AddsPart, AddsUpdate, AreEqual, Fraction, HasPart, IsNoPart, IsTestOf, IsTreeFrom, Tells, are_of, nothing, of_chance, plus, times, unit}
+use Rattle.gen1_outcomes.proofs.Complete.{AreKnown, all_noted}
+use Rattle.gen1_outcomes.proofs.Fractions.{equal-refl, equal-sym, equal-trans, grows-plus, plus-assoc, plus-equal, plus-nothing, same-equal, times-assoc, times-equal, times-nothing, times-plus, times-positive, times-unit, no_parts, plus-positive}
 use Rattle.gen1_outcomes.proofs.Lists.{same_or}
 use Rattle.gen1_outcomes.proofs.Shares.{before_less, before_new}
-use Rattle.gen1_outcomes.proofs.Shifts.{follows_from}
-use Rattle.gen1_outcomes.proofs.Told.{shares_by_test}
+use Rattle.gen1_outcomes.proofs.Told.{shares_by_tests}
 use Rattle.gen1_outcomes.proofs.Walking.{some_node}
 use Rattle.gen1_outcomes.proofs.Weighing.{IsSpent, IsWeighed, LeadsRight, spent, weighed_all, weighed_first, weighed_next, weighed_way}
 
@@ -81,7 +80,7 @@ some_successor =
     let side : SideParts = record { members = []; active = [] } in
     record { battle = record { header = []; one = side; two = side }; low = 0; high = 0 }
 
-part_positive : (battle : Parts) (t : Tally) (xs : List Successor) (x : Fraction) → HasPart battle t xs x → 0 < x.whole
+pub part_positive : (battle : Parts) (t : Tally) (xs : List Successor) (x : Fraction) → HasPart battle t xs x → 0 < x.whole
 part_positive battle t xs x has =
     elim has.part [
       | inl there ↦ (there.part some_successor).one
@@ -240,39 +239,57 @@ since_all (e ∷ es) old new all = since_all es all.0 new all.2 ∙ since_entry 
 -- Walks from a position
 
 -- What streams from a position hit: the fields that pass, where this tree leads.
-abbrev hits_of : (Field → Bool) → Tree → Stream → Bool
+abbrev pub hits_of : (Field → Bool) → Tree → Stream → Bool
 hits_of passes tree stream = passes (leads_to tree stream 0).field
 
+-- The fields that are weighed: those that pass, or those whose bytes are the battle's.
+abbrev pub Weighs : Type 0
+Weighs = State → Parts → (Field → Bool) → Field → Bool
+
+abbrev pub by_test : Weighs
+by_test s battle passes = passes
+
+abbrev pub by_bytes : Weighs
+by_bytes s battle passes = are_of s battle
+
+-- The trees whose fields they are: those of what follows from a position, or of what is played from there.
+abbrev pub Trees : Type 1
+Trees = State → Choice → Choice → List ℕ → Option Left → (Field → Bool) → Parts → Tree → Type 0
+
+abbrev pub IsTreePlayed : Trees
+IsTreePlayed s one two bytes rest passes battle tree =
+    (stream : Stream) → IsStream stream → (parts : Parts) → PlaysFrom s one two bytes rest stream parts → Tells passes battle tree stream parts
+
 -- Before a way: where a list had this part of a battle, it has what was weighed so far besides.
-abbrev pub IsWeighedFrom : Walk → Middle → State → Tally → List Successor → Nodes → Tally → List Successor → Type 0
-IsWeighedFrom w middle s old xs nodes new ys =
-    (battle : Parts) → (passes : Field → Bool) → (tree : Tree) → IsTreeFrom s w.one w.two middle.bytes middle.rest passes battle tree
+abbrev pub IsWeighedFrom : Weighs → Trees → Walk → Middle → State → Tally → List Successor → Nodes → Tally → List Successor → Type 0
+IsWeighedFrom by of w middle s old xs nodes new ys =
+    (battle : Parts) → (passes : Field → Bool) → (tree : Tree) → of s w.one w.two middle.bytes middle.rest passes battle tree
     → (x : Fraction) → HasPart battle old xs x
-    → (z : Fraction) × IsWeighed (Unit {0}) (hits_of passes tree) passes nodes z × HasPart battle new ys (plus x (times (of_chance middle.chance) z))
+    → (z : Fraction) × IsWeighed (Unit {0}) (hits_of passes tree) (by s battle passes) nodes z × HasPart battle new ys (plus x (times (of_chance middle.chance) z))
 
 -- After it.
-abbrev pub IsSpentFrom : Walk → Middle → State → Tally → List Successor → Nodes → Tally → List Successor → Type 0
-IsSpentFrom w middle s old xs nodes new ys =
-    (battle : Parts) → (passes : Field → Bool) → (tree : Tree) → IsTreeFrom s w.one w.two middle.bytes middle.rest passes battle tree
+abbrev pub IsSpentFrom : Weighs → Trees → Walk → Middle → State → Tally → List Successor → Nodes → Tally → List Successor → Type 0
+IsSpentFrom by of w middle s old xs nodes new ys =
+    (battle : Parts) → (passes : Field → Bool) → (tree : Tree) → of s w.one w.two middle.bytes middle.rest passes battle tree
     → (x : Fraction) → HasPart battle old xs x
-    → (z : Fraction) × IsSpent (Unit {0}) (hits_of passes tree) passes nodes z × HasPart battle new ys (plus x (times (of_chance middle.chance) z))
+    → (z : Fraction) × IsSpent (Unit {0}) (hits_of passes tree) (by s battle passes) nodes z × HasPart battle new ys (plus x (times (of_chance middle.chance) z))
 
-pub weighed_from : (w : Walk) (middle : Middle) (s : State) (t : Tally) (xs : List Successor) (nodes : Nodes) → nodes.len ≡ 0
-    → IsWeighedFrom w middle s t xs nodes t xs
-weighed_from w middle s t xs nodes empty battle passes tree is x has =
+pub weighed_from : (by : Weighs) (of : Trees) (w : Walk) (middle : Middle) (s : State) (t : Tally) (xs : List Successor) (nodes : Nodes) → nodes.len ≡ 0
+    → IsWeighedFrom by of w middle s t xs nodes t xs
+weighed_from by of w middle s t xs nodes empty battle passes tree is x has =
     let some = part_positive battle t xs x has in
     let c = of_chance middle.chance in
     let same : AreEqual x (plus x (times c nothing)) =
     equal-sym (equal-trans (plus-equal (equal-refl x some) (times-nothing c middle.chance.positive)) (plus-nothing x some))
     in
-    (nothing, weighed_first (Unit {0}) (hits_of passes tree) passes nodes empty, part_as battle t xs x (plus x (times c nothing)) same has)
+    (nothing, weighed_first (Unit {0}) (hits_of passes tree) (by s battle passes) nodes empty, part_as battle t xs x (plus x (times c nothing)) same has)
 
 -- A way from there is played and added.
 
 zero_or_more : (n : ℕ) → (n ≡ 0) ⊎ (0 < n)
 zero_or_more n = grind arith
 
-right_positive : (a b : ℕ) → 0 < a * b → 0 < b
+pub right_positive : (a b : ℕ) → 0 < a * b → 0 < b
 right_positive a b some = elim (zero_or_more b) [
   | inl none ↦ absurd (omega (arith, some, ap (λ (n : ℕ). a * n) none))
   | inr is ↦ is
@@ -281,7 +298,7 @@ right_positive a b some = elim (zero_or_more b) [
 left_positive : (a b : ℕ) → 0 < a * b → 0 < a
 left_positive a b some = right_positive b a (omega (arith, some))
 
-same_told : (P : Type 0) (b c : Bool) → (P → b ≡ true) → (b ≡ true → P) → (P → c ≡ true) → (c ≡ true → P) → b ≡ c
+pub same_told : (P : Type 0) (b c : Bool) → (P → b ≡ true) → (b ≡ true → P) → (P → c ≡ true) → (c ≡ true → P) → b ≡ c
 same_told P true c one first other last = sym (other (first refl))
 same_told P false true one first other last = one (last refl)
 same_told P false false one first other last = refl
@@ -295,18 +312,26 @@ share-done : (passes : Field → Bool) (q : Progress) → IsShare (Done q) passe
 unfolding IsShare
 share-done passes q = refl
 
--- The part of a battle and what was weighed, with one more way that has the probability c, or without.
-grown_by : (x m z π c : Fraction) → 0 < x.whole → 0 < z.whole → AreEqual c (times m π) → AreEqual (plus (plus x (times m z)) c) (plus x (times m (plus z (times π unit))))
-grown_by x m z π c first some e =
+-- The part of a battle and what was weighed, with the share y of one more way that has the probability c, with all of it, or without.
+pub grown_times : (x m z π c y : Fraction) → 0 < x.whole → 0 < z.whole → 0 < y.whole → AreEqual c (times m π)
+    → AreEqual (plus (plus x (times m z)) (times c y)) (plus x (times m (plus z (times π y))))
+grown_times x m z π c y first some share e =
     let one : 0 < m.whole = left_positive m.whole π.whole e.other in
     let last : 0 < π.whole = right_positive m.whole π.whole e.other in
     let mz : 0 < m.whole * z.whole = times-positive m z one some in
-    let mπ : 0 < m.whole * π.whole = e.other in
-    equal-trans (plus-equal (equal-refl (plus x (times m z)) (plus-positive x (times m z) first mz)) e)
-    (equal-trans (plus-assoc x (times m z) (times m π) first mz mπ)
-    (plus-equal (equal-refl x first)
-    (equal-trans (equal-sym (times-plus m z π one some last))
-    (times-equal (equal-refl m one) (plus-equal (equal-refl z some) (equal-sym (times-unit π last)))))))
+    let πy : 0 < π.whole * y.whole = times-positive π y last share in
+    let moved : AreEqual (times c y) (times m (times π y)) = equal-trans (times-equal e (equal-refl y share)) (times-assoc m π y one last share) in
+    equal-trans (plus-equal (equal-refl (plus x (times m z)) (plus-positive x (times m z) first mz)) moved)
+    (equal-trans (plus-assoc x (times m z) (times m (times π y)) first mz moved.other)
+    (plus-equal (equal-refl x first) (equal-sym (times-plus m z (times π y) one some πy))))
+
+grown_by : (x m z π c : Fraction) → 0 < x.whole → 0 < z.whole → AreEqual c (times m π) → AreEqual (plus (plus x (times m z)) c) (plus x (times m (plus z (times π unit))))
+grown_by x m z π c first some e =
+    let one : 0 < m.whole = left_positive m.whole π.whole e.other in
+    let mz : 0 < m.whole * z.whole = times-positive m z one some in
+    equal-trans
+    (plus-equal (equal-refl (plus x (times m z)) (plus-positive x (times m z) first mz)) (equal-sym (times-unit c e.one)))
+    (grown_times x m z π c unit first some (omega arith) e)
 
 grown_none : (x m z π : Fraction) → 0 < x.whole → 0 < m.whole → 0 < z.whole → 0 < π.whole → AreEqual (plus x (times m z)) (plus x (times m (plus z (times π nothing))))
 grown_none x m z π first one some last =
@@ -316,16 +341,14 @@ grown_none x m z π first one some last =
 pub spent_from : (w : Walk) (middle : Middle) (s : State) (first : Tally) (ws : List Successor) (nodes after : Nodes) (parts : Parts) (c : Chance) (old mid new : Tally)
     (xs ys : List Successor) (ways : ℕ) → IsExact w.options → nodes.options ≡ w.options → after.too_large ≡ false → nodes.at ≡ 0 → AreKnown nodes
     → nodes.before ≡ middle.chance → (plays : PlaysOn w middle nodes after parts) → IsChance after c → Offers w s → GetsShare parts c old mid xs ys
-    → KeepsFirst old.count xs ys → AreDistinct mid.count ys → new ≡ record mid { ways = ways } → IsWeighedFrom w middle s first ws nodes old xs
-    → IsSpentFrom w middle s first ws after new ys
+    → KeepsFirst old.count xs ys → AreDistinct mid.count ys → new ≡ record mid { ways = ways } → IsWeighedFrom by_test IsTreePlayed w middle s first ws nodes old xs
+    → IsSpentFrom by_test IsTreePlayed w middle s first ws after new ys
 spent_from w middle s first ws nodes after parts c old mid new xs ys ways exact options fits at known before plays chance of gets keeps distinct counted weighed battle passes tree is x has =
     let exactly : IsExact nodes.options = subst (λ (o : OutcomeOptions). IsExact o) (sym options) exact in
     let log = plays.way.log in
     let own = plays.way.own in
     let start = stream_of scripted (script_of plays.path) in
-    let follows : (stream : Stream) → Agrees log stream → FollowsFrom s w.one w.two middle.bytes middle.rest stream parts =
-    λ stream agrees. follows_from s w.one w.two middle.bytes middle.rest log parts (plays.leads s of.stands of.offered) stream agrees
-    in
+    let follows : (stream : Stream) → Agrees log stream → PlaysFrom s w.one w.two middle.bytes middle.rest stream parts = plays.played s of.stands of.offered in
     let noted =
     all_noted log nodes after known (omega (arith, at)) exactly fits plays.way.noted
     in
@@ -379,27 +402,33 @@ since_plays w middle nodes after parts plays before =
 pub spent_more : (w : Walk) (middle : Middle) (nodes after : Nodes) (parts : Parts) (c : Chance) (first old mid new : Tally) (ws xs ys : List Successor) (table : List ℕ)
     → IsExact w.options → first.least ≡ 0 → old.least ≡ first.least → nodes.options ≡ w.options → after.too_large ≡ false → nodes.before ≡ middle.chance
     → PlaysOn w middle nodes after parts → IsChance after c → Adds parts c old mid xs ys → KeepsFirst old.count xs ys → IsIndexed table mid.count ys
-    → new ≡ record mid { ways = mid.ways + middle.ways } → IsGoingFrom w middle nodes old.count xs → (s : State) → Offers w s
-    → IsWeighedFrom w middle s first ws nodes old xs → IsSpentFrom w middle s first ws after new ys
-spent_more w middle nodes after parts c first old mid new ws xs ys table exact least stays options fits before plays chance adds keeps are counted going s of weighed =
-    spent_from w middle s first ws nodes after parts c old mid new xs ys (mid.ways + middle.ways) exact options fits going.at going.known before plays chance of
+    → new ≡ record mid { ways = mid.ways + middle.ways } → nodes.at ≡ 0 → AreKnown nodes → (s : State) → Offers w s
+    → IsWeighedFrom by_test IsTreePlayed w middle s first ws nodes old xs → IsSpentFrom by_test IsTreePlayed w middle s first ws after new ys
+spent_more w middle nodes after parts c first old mid new ws xs ys table exact least stays options fits before plays chance adds keeps are counted at known s of weighed =
+    spent_from w middle s first ws nodes after parts c old mid new xs ys (mid.ways + middle.ways) exact options fits at known before plays chance of
     (gets_share parts c old mid xs ys (stays ∙ least) adds) keeps are.distinct counted weighed
 
 -- The next way.
-pub weighed_on : (w : Walk) (middle : Middle) (s : State) (first : Tally) (ws : List Successor) (old next : Nodes) (t : Tally) (xs : List Successor) → LeadsOn old next
-    → IsSpentFrom w middle s first ws old t xs → IsWeighedFrom w middle s first ws next t xs
-weighed_on w middle s first ws old next t xs leads sums battle passes tree is x has =
+pub weighed_on : (by : Weighs) (of : Trees) (w : Walk) (middle : Middle) (s : State) (first : Tally) (ws : List Successor) (old next : Nodes) (t : Tally) (xs : List Successor)
+    → LeadsOn old next → IsSpentFrom by of w middle s first ws old t xs → IsWeighedFrom by of w middle s first ws next t xs
+weighed_on by of w middle s first ws old next t xs leads sums battle passes tree is x has =
     let now = sums battle passes tree is x has in
-    (now.0, weighed_next (Unit {0}) (hits_of passes tree) passes old next now.0 leads now.1, now.2)
+    (now.0, weighed_next (Unit {0}) (hits_of passes tree) (by s battle passes) old next now.0 leads now.1, now.2)
 
--- All ways were gone through.
-pub adds_part : (w : Walk) (middle : Middle) (s : State) (first : Tally) (ws : List Successor) (nodes : Nodes) (t : Tally) (xs : List Successor) → AllDone nodes
-    → IsSpentFrom w middle s first ws nodes t xs → AddsPart w middle s first ws t xs
-adds_part w middle s first ws nodes t xs done sums battle passes tree is whole share some part x has =
+-- All ways were gone through. (With the trees of what follows this is `AddsPart` of specs/Weights.antt.)
+abbrev pub AddsPartOf : Trees → Walk → Middle → State → Tally → List Successor → Tally → List Successor → Type 0
+AddsPartOf of w middle s old xs new ys =
+    (battle : Parts) → (passes : Field → Bool) → (tree : Tree) → of s w.one w.two middle.bytes middle.rest passes battle tree
+    → (whole share : ℕ) → 0 < whole → IsShare tree passes whole share
+    → (x : Fraction) → HasPart battle old xs x → HasPart battle new ys (plus x (times (of_chance middle.chance) (record { num = share; whole = whole })))
+
+pub adds_part : (by : Weighs) (of : Trees) (w : Walk) (middle : Middle) (s : State) (first : Tally) (ws : List Successor) (nodes : Nodes) (t : Tally) (xs : List Successor)
+    → AllDone nodes → IsSpentFrom by of w middle s first ws nodes t xs → AddsPartOf of w middle s first ws t xs
+adds_part by of w middle s first ws nodes t xs done sums battle passes tree is whole share some part x has =
     let now = sums battle passes tree is x has in
-    let all = weighed_all (Unit {0}) (hits_of passes tree) passes nodes now.0 done now.1 in
+    let all = weighed_all (Unit {0}) (hits_of passes tree) (by s battle passes) nodes now.0 done now.1 in
     let cross : all.share * whole ≡ share * all.whole =
-    shares_by_test all.tree tree passes all.whole all.share whole share (λ stream of. all.leads tt stream of) all.is part
+    shares_by_tests all.tree tree (by s battle passes) passes all.whole all.share whole share (λ stream of. all.leads tt stream of) all.is part
     in
     let same : AreEqual now.0 (record { num = share; whole = whole }) = equal-trans all.equal (record { one = all.some; other = some; cross = cross }) in
     let c = of_chance middle.chance in
@@ -473,7 +502,7 @@ quiet_update s one two acts =
     )
 
 -- What follows from the beginning passes a test of a battle exactly if it is the battle.
-tells_of : (s : State) (battle parts : Parts) (passes : Field → Bool) (tree : Tree) (stream : Stream) (f : Field) → IsTestOf s battle passes
+pub tells_of : (s : State) (battle parts : Parts) (passes : Field → Bool) (tree : Tree) (stream : Stream) (f : Field) → IsTestOf s battle passes
     → f ≡ (leads_to tree stream 0).field → joined (blocks_of (state_in (setting_of s) f)) ≡ joined parts → Tells passes battle tree stream parts
 tells_of s battle parts passes tree stream f test leads bytes =
     record {
@@ -533,7 +562,7 @@ pub adds_update : (w : Walk) (middle : Middle) (s : State) (old new : Tally) (xs
 adds_update w middle s old new xs ys none certain of adds battle passes test whole share some tree x has =
     let y : Fraction = record { num = share; whole = whole } in
     let from : IsTreeFrom s w.one w.two middle.bytes middle.rest passes battle tree.0 =
-    subst (λ (rest : Option Rest). IsTreeFrom s w.one w.two middle.bytes rest passes battle tree.0) (sym none)
+    subst (λ (rest : Option Left). IsTreeFrom s w.one w.two middle.bytes rest passes battle tree.0) (sym none)
     (update_tells w s of battle passes test tree.0 tree.1.0 middle.bytes)
     in
     part_as battle new ys (plus x (times (of_chance middle.chance) y)) (plus x y)

@@ -12,17 +12,22 @@ use Rattle.gen1_machine.specs.declared.terms.Request.TheVariants as requests
 use Rattle.gen1_machine.specs.Conditions.{without_flinch}
 use Rattle.gen1_machine.specs.Picks.{pick_in}
 use Rattle.gen1_machine.specs.Plans.{FitsPick, Plan}
-use Rattle.gen1_machine.specs.Progress.{Phase, Progress, on_conditions}
+use Rattle.gen1_machine.specs.Progress.{Phase, Progress, on_conditions, ◌▸◌}
 use Rattle.gen1_machine.specs.Ruling.{Ruling, ruling_of}
 use Rattle.gen1_machine.specs.Sides.{other}
 use Rattle.gen1_machine.specs.State.{Field, State, Terms, request_of}
 use Rattle.gen1_machine.specs.Step.{close_update}
-use Rattle.gen1_machine.specs.Turn.{Acts, Suffers, do_parts, is_cut, of_side, set_picked, turn}
+use Rattle.gen1_machine.specs.Turn.{Acts, Suffers, do_parts, end_turn, is_cut, of_side, set_picked, turn}
 use Rattle.gen1_machine.specs.TurnOrder.{in_order}
 use Rattle.gen1_layout.specs.Parts.{Parts}
 use Rattle.gen1_layout.specs.Within.{Setting, Stands, Within, setting_of}
 use Rattle.gen1_hits.specs.Planned.{Follows}
 use Rattle.gen1_switching.specs.Updates.{Plays, drawing_on}
+use Rattle.gen1_turn.specs.TurnParts.{suffering}
+use Rattle.gen1_turn.specs.TwoParts.{IsRolling, from_roll}
+use Rattle.gen1_turn.specs.declared.action.two_parts.Roll.{Roll}
+use Rattle.gen1_outcomes.specs.declared.beginning.Left.{Left}
+use Rattle.gen1_outcomes.specs.declared.beginning.Left.TheVariants as lefts
 use Rattle.gen1_outcomes.specs.declared.beginning.Rest.{Rest}
 
 abbrev pub is_move : Choice → Bool
@@ -54,6 +59,15 @@ second_action r s pick = do_parts r (Acts s pick ∷ Suffers s ∷ [])
 abbrev pub rest_of : Rest → Ruling → Phase
 rest_of rest r p = if rest.is_cut then p else close_update r (second_action r rest.second rest.pick p)
 
+-- The rest of an update from the roll of the damage of a side's action on, which is the second one.
+abbrev pub from_damage : Side → Roll → Ruling → Phase
+from_damage s roll r p = close_update r ((from_roll r s roll ▸ suffering s end_turn) p)
+
+-- What is left of an update at a position.
+abbrev pub left_of : Left → Ruling → Phase
+left_of (lefts.Second rest) r p = rest_of rest r p
+left_of (lefts.Roll s roll) r p = from_damage s roll r p
+
 -- A turn that isn't cut is before its second action, which fits what its side plans, and which is skipped or not.
 pub record IsReady (rest : Rest) (terms : Terms) (p : Progress) : Type 0 where
   pub skips : p.skips ≡ rest.skips
@@ -62,6 +76,11 @@ pub record IsReady (rest : Rest) (terms : Terms) (p : Progress) : Type 0 where
   pub plan : Side → Plan
   pub fits : FitsPick rest.pick (plan rest.second)
   pub follows : Follows terms plan p
+
+-- A battle in the middle of an update is at a position of which this is left.
+abbrev pub IsReadyFor : Left → Terms → Progress → Type 0
+IsReadyFor (lefts.Second rest) terms p = rest.is_cut ≡ false → IsReady rest terms p
+IsReadyFor (lefts.Roll s roll) terms p = IsRolling s roll p
 
 -- A turn is played up to its second action. If it is cut, what is shown is the whole update; else it isn't cut there, and the second
 -- action follows.
@@ -99,3 +118,19 @@ EndsUpdate d random battle rest =
     (since : Since d random.exit.now) (g : Setting) (p : Progress)
     → Within g battle.entry.now p.field → (rest.is_cut ≡ false → IsReady rest g.terms p) → p.stream ≡ since.source.stream → StandsIn d since.source p.drawn random.entry.now
     → let q = rest_of rest (ruling_of g.terms) p in Within g battle.exit.now q.field × StandsIn d since.source q.drawn random.exit.now
+
+-- The bytes and the generator are those of an update at a position, from which what is left leads to the whole.
+pub record GoesTo {A : Type 0} (d : Drawing A) (source : Source A) (g : Setting) (parts : Parts) (now : A) (left : Left) (whole : Progress) : Type 0 where
+  pub here : Progress
+  pub within : Within g parts here.field
+  pub stands : StandsIn d source here.drawn now
+  pub on : here.stream ≡ source.stream
+  pub ready : IsReadyFor left g.terms here
+  pub rests : whole ≡ left_of left (ruling_of g.terms) here
+
+-- Code with draws plays the second action up to the roll of its damage, or the whole rest of the update, with draws from any place of any stream.
+abbrev pub LeadsTo : {A : Type 0} → Drawing A → Ref A → Ref Parts → Rest → Left → Type 0
+LeadsTo d random battle rest left =
+    (since : Since d random.exit.now) (g : Setting) (p : Progress)
+    → Within g battle.entry.now p.field → (rest.is_cut ≡ false → IsReady rest g.terms p) → p.stream ≡ since.source.stream → StandsIn d since.source p.drawn random.entry.now
+    → GoesTo d since.source g battle.exit.now random.exit.now left (rest_of rest (ruling_of g.terms) p)

@@ -9,7 +9,7 @@ use Rattle.gen1_machine.specs.State.{State}
 use Rattle.gen1_layout.specs.Parts.{Parts, joined}
 use Rattle.gen1_layout.specs.Within.{Stands}
 use Rattle.gen1_engine.specs.Update.{AreOffered}
-use Rattle.gen1_outcomes.specs.declared.beginning.Rest.{Rest}
+use Rattle.gen1_outcomes.specs.declared.beginning.Left.{Left}
 use Rattle.gen1_outcomes.specs.declared.middles.Middle.{Middle}
 use Rattle.gen1_outcomes.specs.declared.middles.Middles.{Middles}
 use Rattle.gen1_outcomes.specs.declared.nodes.Asked.{Asked}
@@ -17,7 +17,7 @@ use Rattle.gen1_outcomes.specs.declared.nodes.Asked.TheVariants.{First, Next, Un
 use Rattle.gen1_outcomes.specs.declared.nodes.Nodes.{Nodes}
 use Rattle.gen1_outcomes.specs.declared.options.OutcomeOptions.{OutcomeOptions}
 use Rattle.gen1_outcomes.specs.declared.successor.Successor.{Successor}
-use Rattle.gen1_outcomes.specs.Beginning.{have_two_actions, rest_of}
+use Rattle.gen1_outcomes.specs.Beginning.{have_two_actions, left_of}
 use Rattle.gen1_outcomes.specs.Following.{AreOf, Follows, Walk}
 use Rattle.gen1_outcomes.specs.Listing.{KeepsFirst, battle_at, untold}
 use Rattle.gen1_outcomes.specs.Logs.{place_past}
@@ -65,10 +65,10 @@ pub record Lists (Is : Parts → Type 0) (count : ℕ) (xs : List Successor) : T
   pub bytes : (past : Successor) → joined (battle_at xs place past) ≡ joined battle
 
 -- A battle follows with the draws of a stream from its beginning on: it is what the rest of an update makes of a position, or without one, what the whole update does.
-abbrev pub FollowsFrom : State → Choice → Choice → List ℕ → Option Rest → Stream → Parts → Type 0
+abbrev pub FollowsFrom : State → Choice → Choice → List ℕ → Option Left → Stream → Parts → Type 0
 FollowsFrom s one two bytes None stream battle = Follows s one two stream battle untold
 FollowsFrom s one two bytes (Some rest) stream battle =
-    (p : Progress) → IsAt s bytes rest p → p.stream ≡ stream → p.drawn ≡ 0 → AreOf s battle untold (rest_of rest (ruling_of s.terms) p)
+    (p : Progress) → IsAt s bytes rest p → p.stream ≡ stream → p.drawn ≡ 0 → AreOf s battle untold (left_of rest (ruling_of s.terms) p)
 
 -- States of the battle of a walk that offer its pair, and those in which it has two actions.
 pub record Offers (w : Walk) (s : State) : Type 0 where

@@ -5,6 +5,7 @@ pub mod Nodes
 pub mod Script
 pub mod Chances
 pub mod Beginning
+pub mod Exchanged
 pub mod Following
 pub mod Listing
 pub mod Logs

@@ -1,11 +1,12 @@
 -- A list of the battles that can follow from a pair of choices, with their weights.
-use Rattle.std.specs.Prelude.{List, take, slice_index_or, ℕ, ◌*◌, ◌++◌, ◌+◌, ◌<◌, ◌≡◌, ◌≤◌, ◌⊎◌}
+use Rattle.std.specs.Prelude.{List, [], false, take, slice_index_or, ℕ, ◌*◌, ◌++◌, ◌+◌, ◌<◌, ◌∷◌, ◌≡◌, ◌≤◌, ◌⊎◌}
 use Rattle.std.specs.List.{sum_by}
 use Rattle.gen1_rolls.specs.Streams.{Drawn}
 use Rattle.gen1_machine.specs.declared.choice.Choice.{Choice}
 use Rattle.gen1_machine.specs.State.{State}
 use Rattle.gen1_layout.specs.Parts.{Parts}
 use Rattle.gen1_layout.specs.Shows.{Telling}
+use Rattle.gen1_outcomes.specs.declared.log.Entry.{Entry}
 use Rattle.gen1_outcomes.specs.declared.nodes.Nodes.{Nodes}
 use Rattle.gen1_outcomes.specs.declared.options.OutcomeOptions.{OutcomeOptions}
 use Rattle.gen1_outcomes.specs.declared.outcomes.Outcomes.{Outcomes}
@@ -13,7 +14,7 @@ use Rattle.gen1_outcomes.specs.declared.successor.Successor.{Successor}
 use Rattle.gen1_layout.specs.Within.{Stands}
 use Rattle.gen1_engine.specs.Update.{AreOffered}
 use Rattle.gen1_outcomes.specs.Following.{Leads, Walk}
-use Rattle.gen1_outcomes.specs.Logs.{Agrees, IsLogged}
+use Rattle.gen1_outcomes.specs.Logs.{Agrees, IsLogged, IsOrderOf}
 use Rattle.gen1_outcomes.specs.Nodes.{IsPathOf}
 use Rattle.gen1_outcomes.specs.Script.{script_of}
 
@@ -32,7 +33,8 @@ battle_at xs k past = (slice_index_or xs k past).battle
 abbrev pub untold : Telling
 untold = λ _. Unit {0}
 
--- A part of an update was played with the draws of a script, which are noted by these options.
+-- A part of an update was played with the draws of a script, which are noted by these options, by a way that is not too large. The update draws
+-- them in some order.
 pub record IsPart (form : OutcomeOptions) : Type 0 where
   pub nodes : Nodes
   pub options : nodes.options ≡ form
@@ -40,15 +42,27 @@ pub record IsPart (form : OutcomeOptions) : Type 0 where
   pub is_path : IsPathOf nodes path
   pub after : Nodes
   pub way : IsLogged (script_of path) nodes after
+  pub fits : after.too_large ≡ false
+  pub order : List Entry
+  pub same : IsOrderOf way.log order
 
--- A battle follows on each stream that agrees with the log of a first part of an update and then with that of a second one, and a stream does: of
--- bytes, of which any 560 in a row hold every one. Nothing is drawn in the first part of an update that is played in one.
+-- What parts of an update draw, in its order. The last part comes first.
+abbrev pub log_of : {form : OutcomeOptions} → List (IsPart form) → List Entry
+log_of [] = []
+log_of (last ∷ before) = log_of before ++ last.order
+
+-- How many bytes in a row of a stream for these parts hold every one.
+abbrev pub width_of : {form : OutcomeOptions} → List (IsPart form) → ℕ
+width_of [] = 0
+width_of (last ∷ before) = width_of before + 840
+
+-- A battle follows on each stream that agrees with what some parts of an update draw, one after the other, and a stream does: of bytes, of which
+-- any 840 for each part in a row hold every one.
 pub record FollowsBy (s : State) (one two : Choice) (form : OutcomeOptions) (parts : Parts) : Type 0 where
-  pub first : IsPart form
-  pub second : IsPart form
-  pub leads : Leads s one two (first.way.log ++ second.way.log) parts untold
+  pub played : List (IsPart form)
+  pub leads : Leads s one two (log_of played) parts untold
   pub bytes : ℕ → ℕ
-  pub agrees : Agrees (first.way.log ++ second.way.log) (Drawn bytes 560)
+  pub agrees : Agrees (log_of played) (Drawn bytes (width_of played))
 
 -- Each of the first battles does.
 abbrev pub EachFollows : State → Choice → Choice → OutcomeOptions → ℕ → List Successor → Type 0

@@ -3,6 +3,7 @@ use Rattle.std.specs.Prelude.{IsTrue, List, None, Option, Some, [], ℕ, ◌++�
 use Rattle.std.specs.Borrow.{GName}
 use Rattle.gen1_rolls.specs.declared.look.ByteTest.{ByteTest}
 use Rattle.gen1_rolls.specs.declared.look.Look.{Look}
+use Rattle.gen1_rolls.specs.declared.look.Look.TheVariants.{Remainder}
 use Rattle.gen1_rolls.specs.Draws.{Drawing}
 use Rattle.gen1_rolls.specs.Looks.{passes, sees}
 use Rattle.gen1_rolls.specs.Steady.{StandsAt, stream_of}
@@ -75,6 +76,26 @@ pub record IsLogged (script : Script) (old new : Nodes) : Type 0 where
   pub log : List Entry
   pub own : Agrees log (stream_of scripted script)
   pub noted : NotesAll log old new
+
+-- An order of a log in which what was asked second comes before what was asked first.
+pub record IsSwapped (log order : List Entry) : Type 0 where
+  pub first : List Entry
+  pub second : List Entry
+  pub rest : List Entry
+  pub asked : log ≡ first ++ (second ++ rest)
+  pub is : order ≡ second ++ (first ++ rest)
+
+-- An order with a search before all else that was not asked, since nothing is seen of the byte that it finds.
+pub record IsUnasked (log order : List Entry) : Type 0 where
+  pub test : ByteTest
+  pub byte : ℕ
+  pub small : byte < 256
+  pub passes : IsTrue (passes test byte)
+  pub is : order ≡ Found test (Remainder 1) byte ∷ log
+
+-- The order in which an update draws what was asked in the order of a log.
+abbrev pub IsOrderOf : List Entry → List Entry → Type 0
+IsOrderOf log order = (order ≡ log) ⊎ IsSwapped log order ⊎ IsUnasked log order
 
 -- A script draws a stream, which agrees with the log of its draws.
 pub record Draws (origin : Script) (s : Stream) (log : List Entry) (script : Script) : Type 0 where

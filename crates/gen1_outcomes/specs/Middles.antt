@@ -1,27 +1,38 @@
 -- Positions between the two actions of a turn, when they agree, how a way reaches one, and what it leads to (docs/MECHANICS.md, "Order of a turn", "Link numbers").
-use Rattle.std.specs.Prelude.{List, None, Option, Some, [], false, slice_index_or, true, ℕ, ◌+◌, ◌^◌, ◌<◌, ◌≡◌, ◌≢◌, ◌≤◌, ◌⊎◌}
-use Rattle.gen1_rolls.specs.Streams.{Stream}
+use Rattle.std.specs.Prelude.{IsTrue, List, None, Option, Some, [], false, slice_index_or, true, ℕ, ◌++◌, ◌+◌, ◌∷◌, ◌^◌, ◌<◌, ◌≡◌, ◌≢◌, ◌≤◌, ◌⊎◌}
+use Rattle.gen1_rolls.specs.declared.look.ByteTest.TheVariants.{RotatedAtLeast}
+use Rattle.gen1_rolls.specs.declared.look.Look.TheVariants.{Remainder}
+use Rattle.gen1_rolls.specs.Streams.{Drawn, Stream}
 use Rattle.gen1_machine.specs.declared.choice.Choice.{Choice}
 use Rattle.gen1_machine.specs.declared.choice.Choice.TheVariants as choices
+use Rattle.gen1_machine.specs.declared.side.Side.{Side}
 use Rattle.gen1_machine.specs.declared.side.Side.TheVariants.{One, Two}
 use Rattle.gen1_machine.specs.declared.terms.Request.TheVariants.{Move}
+use Rattle.gen1_machine.specs.Damage.{is_factor, vary}
+use Rattle.gen1_machine.specs.HitTest.{hit_or_miss}
 use Rattle.gen1_machine.specs.Picks.{pick_in}
-use Rattle.gen1_machine.specs.Progress.{Progress}
+use Rattle.gen1_machine.specs.Progress.{Progress, has_missed}
 use Rattle.gen1_machine.specs.Ruling.{ruling_of}
 use Rattle.gen1_machine.specs.State.{State}
 use Rattle.gen1_machine.specs.Turn.{turn}
 use Rattle.gen1_layout.specs.Parts.{Parts, parts_of}
 use Rattle.gen1_layout.specs.Within.{Stands, Within, setting_of}
+use Rattle.gen1_layout.specs.Words.{move_at}
+use Rattle.gen1_turn.specs.declared.action.two_parts.Roll.{Roll}
 use Rattle.gen1_engine.specs.Update.{AreOffered}
 use Rattle.gen1_switching.specs.Updates.{Plays, drawing_on}
+use Rattle.gen1_outcomes.specs.declared.beginning.Left.{Left}
+use Rattle.gen1_outcomes.specs.declared.beginning.Left.TheVariants as lefts
 use Rattle.gen1_outcomes.specs.declared.beginning.Rest.{Rest}
 use Rattle.gen1_outcomes.specs.declared.log.Entry.{Entry}
+use Rattle.gen1_outcomes.specs.declared.log.Entry.TheVariants.{Found}
 use Rattle.gen1_outcomes.specs.declared.nodes.Nodes.{Nodes}
-use Rattle.gen1_outcomes.specs.Beginning.{Begins, IsReady, have_two_actions, rest_of, unflinched}
-use Rattle.gen1_outcomes.specs.Following.{AreOf, Leads, Walk, turn_on}
-use Rattle.gen1_outcomes.specs.Listing.{untold}
+use Rattle.gen1_outcomes.specs.Beginning.{Begins, GoesTo, IsReadyFor, have_two_actions, left_of, rest_of, unflinched}
+use Rattle.gen1_outcomes.specs.Exchanged.{tested_first}
+use Rattle.gen1_outcomes.specs.Following.{AreOf, Follows, Leads, Walk, turn_on}
+use Rattle.gen1_outcomes.specs.Listing.{IsPart, log_of, untold, width_of}
 use Rattle.gen1_outcomes.specs.Nodes.{IsPathOf, IsTooLarge}
-use Rattle.gen1_outcomes.specs.Logs.{Agrees, IsLogged, logged}
+use Rattle.gen1_outcomes.specs.Logs.{Agrees, IsLogged, IsOrderOf, logged, place_at}
 use Rattle.gen1_outcomes.specs.Script.{script_of}
 use Rattle.gen1_outcomes.specs.declared.middles.Middle.{Middle}
 use Rattle.gen1_outcomes.specs.declared.middles.Middles.{Middles}
@@ -79,38 +90,81 @@ IsAdded added old new = Joins added old new ⊎ IsPut added old new
 abbrev pub IsTooLong : Middle → Nodes → Type 0
 IsTooLong middle nodes = (24 < middle.draws + nodes.len) ⊎ IsTooLarge nodes
 
--- A turn is at a position before its second action: it has the position's bytes, and this is the rest of the update.
-pub record IsAt (s : State) (bytes : List ℕ) (rest : Rest) (p : Progress) : Type 0 where
+-- A turn is at a position: it has the position's bytes, and this is left of the update.
+pub record IsAt (s : State) (bytes : List ℕ) (rest : Left) (p : Progress) : Type 0 where
   pub within : Within (setting_of s) (parts_of bytes) p.field
-  pub ready : rest.is_cut ≡ false → IsReady rest s.terms p
+  pub ready : IsReadyFor rest s.terms p
 
 -- A turn on a stream arrives at a position: this rest of the update follows.
 pub record Arrives (s : State) (one two : Choice) (stream : Stream) (middle : Middle) : Type 0 where
-  pub rest : Rest
+  pub rest : Left
   pub kept : middle.rest ≡ Some rest
   pub here : Progress
   pub at : IsAt s middle.bytes rest here
   pub on : here.stream ≡ stream
-  pub rests : turn_on s one two stream 0 ≡ rest_of rest (ruling_of s.terms) here
+  pub rests : turn_on s one two stream 0 ≡ left_of rest (ruling_of s.terms) here
 
 -- The parts are those of the rest of an update from a position, played with the draws of each stream that agrees with a log, from its
 -- beginning on.
-abbrev pub EndsAt : State → List ℕ → Rest → List Entry → Parts → Type 0
+abbrev pub EndsAt : State → List ℕ → Left → List Entry → Parts → Type 0
 EndsAt s bytes rest log parts =
     (stream : Stream) → Agrees log stream → (p : Progress) → IsAt s bytes rest p → p.stream ≡ stream → p.drawn ≡ 0
-    → AreOf s parts untold (rest_of rest (ruling_of s.terms) p)
+    → AreOf s parts untold (left_of rest (ruling_of s.terms) p)
 
 -- The parts are those of the rest of an update from a position, or of a whole update.
-abbrev pub LeadsFrom : State → Choice → Choice → List ℕ → Option Rest → List Entry → Parts → Type 0
+abbrev pub LeadsFrom : State → Choice → Choice → List ℕ → Option Left → List Entry → Parts → Type 0
 LeadsFrom s one two bytes None log parts = Leads s one two log parts untold
 LeadsFrom s one two bytes (Some rest) log parts = EndsAt s bytes rest log parts
 
--- What a position leads to by a way with a path for these draws.
+-- A way from the roll of a damage on whose hit test was drawn first, and hits: then the damage was rolled. The update rolls it first.
+pub record PlaysHit (s : State) (bytes : List ℕ) (side : Side) (roll : Roll) (log order : List Entry) : Type 0 where
+  pub tested : List Entry
+  pub rolled : List Entry
+  pub rest : List Entry
+  pub asked : log ≡ tested ++ (rolled ++ rest)
+  pub is : order ≡ rolled ++ (tested ++ rest)
+  pub hits : (stream : Stream) → Agrees tested stream → (p : Progress) → IsAt s bytes (lefts.Roll side roll) p → p.stream ≡ stream → p.drawn ≡ 0
+      → let q = hit_or_miss side (move_at roll.id) p in (has_missed q ≡ false) × (place_at tested stream 0 ≡ q.drawn)
+  pub rolls : (stream : Stream) → Agrees rolled stream → (p : Progress) → IsAt s bytes (lefts.Roll side roll) p → p.stream ≡ stream → p.drawn ≡ 0
+      → place_at rolled stream 0 ≡ (vary roll.damage p).drawn
+
+-- One whose hit test misses, so that no damage was rolled. The update searches for a factor before all else.
+pub record PlaysMiss (s : State) (bytes : List ℕ) (side : Side) (roll : Roll) (log order : List Entry) : Type 0 where
+  pub byte : ℕ
+  pub small : byte < 256
+  pub passes : IsTrue (is_factor byte)
+  pub is : order ≡ Found (RotatedAtLeast 217) (Remainder 1) byte ∷ log
+  pub misses : (stream : Stream) → Agrees log stream → (p : Progress) → IsAt s bytes (lefts.Roll side roll) p → p.stream ≡ stream → p.drawn ≡ 0
+      → has_missed (hit_or_miss side (move_at roll.id) p) ≡ true
+
+-- The order in which an update draws what a way from a position asked.
+abbrev pub IsPlayedIn : State → List ℕ → Option Left → List Entry → List Entry → Type 0
+IsPlayedIn s bytes None log order = order ≡ log
+IsPlayedIn s bytes (Some (lefts.Second rest)) log order = order ≡ log
+IsPlayedIn s bytes (Some (lefts.Roll side roll)) log order = PlaysHit s bytes side roll log order ⊎ PlaysMiss s bytes side roll log order
+
+-- What is played of an update from a position with the draws of a stream from its beginning on: what follows, but from a roll on with the hit test
+-- before the roll.
+abbrev pub PlaysFrom : State → Choice → Choice → List ℕ → Option Left → Stream → Parts → Type 0
+PlaysFrom s one two bytes None stream parts = Follows s one two stream parts untold
+PlaysFrom s one two bytes (Some (lefts.Second rest)) stream parts =
+    (p : Progress) → IsAt s bytes (lefts.Second rest) p → p.stream ≡ stream → p.drawn ≡ 0 → AreOf s parts untold (rest_of rest (ruling_of s.terms) p)
+PlaysFrom s one two bytes (Some (lefts.Roll side roll)) stream parts =
+    (p : Progress) → IsAt s bytes (lefts.Roll side roll) p → p.stream ≡ stream → p.drawn ≡ 0 → AreOf s parts untold (tested_first side roll (ruling_of s.terms) p)
+
+-- What a position leads to by a way with a path for these draws, in the order in which the update draws them if the way isn't too large.
 pub record PlaysOn (w : Walk) (middle : Middle) (nodes after : Nodes) (parts : Parts) : Type 0 where
   pub path : List ℕ
   pub is_path : IsPathOf nodes path
   pub way : IsLogged (script_of path) nodes after
-  pub leads : (s : State) → Stands w.start s → AreOffered s w.one w.two → LeadsFrom s w.one w.two middle.bytes middle.rest way.log parts
+  pub order : List Entry
+  pub same : IsOrderOf way.log order
+  pub leads : after.too_large ≡ false → (s : State) → Stands w.start s → AreOffered s w.one w.two
+      → LeadsFrom s w.one w.two middle.bytes middle.rest order parts
+  pub drawn : after.too_large ≡ false → (s : State) → Stands w.start s → AreOffered s w.one w.two
+      → IsPlayedIn s middle.bytes middle.rest way.log order
+  pub played : (s : State) → Stands w.start s → AreOffered s w.one w.two → (stream : Stream) → Agrees way.log stream
+      → PlaysFrom s w.one w.two middle.bytes middle.rest stream parts
 
 -- A position is where a walk's turn of two moves is before its second action, on each stream that agrees with the log of a way with a path for
 -- these draws.
@@ -118,7 +172,7 @@ pub record Reaches (w : Walk) (nodes after : Nodes) (middle : Middle) : Type 0 w
   pub path : List ℕ
   pub is_path : IsPathOf nodes path
   pub rest : Rest
-  pub kept : middle.rest ≡ Some rest
+  pub kept : middle.rest ≡ Some (lefts.Second rest)
   pub way : IsLogged (script_of path) nodes after
   pub begins : (s : State) → (j k : ℕ) → Stands w.start s → Plays s Move w.one w.two → w.one ≡ choices.Move j → w.two ≡ choices.Move k
       → (stream : Stream) → Agrees way.log stream
@@ -126,15 +180,34 @@ pub record Reaches (w : Walk) (nodes after : Nodes) (middle : Middle) : Type 0 w
       Begins logged (record { origin = []; stream = stream }) (setting_of s) (parts_of middle.bytes) way.log rest (pick_in j One (unflinched p).field)
       (pick_in k Two (unflinched p).field) p (turn (ruling_of s.terms) w.one w.two p)
 
--- A way of a walk of two actions reaches a position by draws that are noted by its options; or the position is the beginning of an update.
+-- A position is where a turn arrives that was at another one, before its second action, on each stream that agrees with the log of a way
+-- with a path for these draws.
+pub record ReachesFrom (w : Walk) (from : Middle) (nodes after : Nodes) (to : Middle) : Type 0 where
+  pub rest : Rest
+  pub was : from.rest ≡ Some (lefts.Second rest)
+  pub path : List ℕ
+  pub is_path : IsPathOf nodes path
+  pub left : Left
+  pub kept : to.rest ≡ Some left
+  pub way : IsLogged (script_of path) nodes after
+  pub goes : (s : State) → (stream : Stream) → Agrees way.log stream → (p : Progress) → IsAt s from.bytes (lefts.Second rest) p → p.stream ≡ stream → p.drawn ≡ 0
+      → GoesTo logged (record { origin = []; stream = stream }) (setting_of s) (parts_of to.bytes) way.log left (rest_of rest (ruling_of s.terms) p)
+
+-- A position isn't before a second action.
+abbrev pub IsElsewhere : Middle → Type 0
+IsElsewhere middle = (rest : Rest) → middle.rest ≢ Some (lefts.Second rest)
+
+-- The parts of an update of two actions that were played lead to a position, on each stream that agrees with their logs, one after the other:
+-- the turn arrives there where these end. A stream does agree.
 pub record IsReachedBy (w : Walk) (middle : Middle) : Type 0 where
-  pub nodes : Nodes
-  pub options : nodes.options ≡ w.options
-  pub after : Nodes
-  pub fits : after.too_large ≡ false
-  pub reaches : Reaches w nodes after middle
+  pub played : List (IsPart w.options)
+  pub arrives : (s : State) → Stands w.start s → AreOffered s w.one w.two → (stream : Stream) → Agrees (log_of played) stream
+      → (a : Arrives s w.one w.two stream middle) × (place_at (log_of played) stream 0 ≡ a.here.drawn)
+  pub bytes : ℕ → ℕ
+  pub agrees : Agrees (log_of played) (Drawn bytes (width_of played))
   pub two : (s : State) → Stands w.start s → have_two_actions w.one w.two s.field ≡ true
 
+-- Or the position is the beginning of an update.
 abbrev pub IsReached : Walk → Middle → Type 0
 IsReached w middle = (middle.rest ≡ None) ⊎ IsReachedBy w middle
 

@@ -9,13 +9,13 @@ use Rattle.gen1_machine.specs.State.{Field, State}
 use Rattle.gen1_machine.specs.Step.{opened}
 use Rattle.gen1_layout.specs.Parts.{Parts, joined}
 use Rattle.gen1_layout.specs.Within.{blocks_of, setting_of, state_in}
-use Rattle.gen1_outcomes.specs.declared.beginning.Rest.{Rest}
+use Rattle.gen1_outcomes.specs.declared.beginning.Left.{Left}
 use Rattle.gen1_outcomes.specs.declared.merging.Tally.{Tally}
 use Rattle.gen1_outcomes.specs.declared.middles.Middle.{Middle}
 use Rattle.gen1_outcomes.specs.declared.middles.Middles.{Middles}
 use Rattle.gen1_outcomes.specs.declared.nodes.Chance.{Chance}
 use Rattle.gen1_outcomes.specs.declared.successor.Successor.{Successor}
-use Rattle.gen1_outcomes.specs.Beginning.{rest_of}
+use Rattle.gen1_outcomes.specs.Beginning.{left_of}
 use Rattle.gen1_outcomes.specs.Complete.{FollowsFrom, OffersTwo}
 use Rattle.gen1_outcomes.specs.Following.{Walk}
 use Rattle.gen1_outcomes.specs.Listing.{battle_at}
@@ -77,7 +77,7 @@ pub record Tells (passes : Field → Bool) (battle : Parts) (tree : Tree) (strea
   pub of : passes (leads_to tree stream 0).field ≡ true → joined parts ≡ joined battle
 
 -- It does so for what follows from a position on each stream.
-abbrev pub IsTreeFrom : State → Choice → Choice → List ℕ → Option Rest → (Field → Bool) → Parts → Tree → Type 0
+abbrev pub IsTreeFrom : State → Choice → Choice → List ℕ → Option Left → (Field → Bool) → Parts → Tree → Type 0
 IsTreeFrom s one two bytes rest passes battle tree =
     (stream : Stream) → IsStream stream → (parts : Parts) → FollowsFrom s one two bytes rest stream parts → Tells passes battle tree stream parts
 
@@ -89,23 +89,23 @@ AddsPart w middle s old xs new ys =
     → (x : Fraction) → HasPart battle old xs x → HasPart battle new ys (plus x (times (of_chance middle.chance) (record { num = share; whole = whole })))
 
 -- The rest of an update from a position: a tree of it from some battle that is there, and the share of the fields that pass a test.
-pub record HasRest (s : State) (passes : Field → Bool) (bytes : List ℕ) (rest : Rest) : Type 0 where
+pub record HasRest (s : State) (passes : Field → Bool) (bytes : List ℕ) (rest : Left) : Type 0 where
   pub here : Progress
   pub at : IsAt s bytes rest here
   pub tree : Tree
-  pub leads : (stream : Stream) (n : ℕ) → rest_of rest (ruling_of s.terms) (drawing_from stream n here) ≡ leads_to tree stream n
+  pub leads : (stream : Stream) (n : ℕ) → left_of rest (ruling_of s.terms) (drawing_from stream n here) ≡ leads_to tree stream n
   pub whole : ℕ
   pub share : ℕ
   pub some : 0 < whole
   pub is : IsShare tree passes whole share
 
-abbrev pub share_of : {s : State} {passes : Field → Bool} {bytes : List ℕ} {rest : Rest} → HasRest s passes bytes rest → Fraction
+abbrev pub share_of : {s : State} {passes : Field → Bool} {bytes : List ℕ} {rest : Left} → HasRest s passes bytes rest → Fraction
 share_of h = record { num = h.share; whole = h.whole }
 
 -- The part of the position at a place: its probability times that share.
 pub record IsPartOf (s : State) (passes : Field → Bool) (middles : Middles) (k : ℕ) (x : Fraction) : Type 0 where
   pub bytes : List ℕ
-  pub rest : Rest
+  pub rest : Left
   pub from : HasRest s passes bytes rest
   pub same : (past : Middle) → (slice_index_or middles.list k past).bytes ≡ bytes
   pub kept : (past : Middle) → (slice_index_or middles.list k past).rest ≡ Some rest
@@ -123,14 +123,14 @@ pub record ArePending (s : State) (passes : Field → Bool) (middles : Middles) 
   pub sum : AreEqual x (sum_of_parts middles.len part)
 
 -- Whichever battle is at a position, the rest of the update leads to fields of which a test says the same.
-abbrev pub IsAlikeFrom : State → (Field → Bool) → List ℕ → Rest → Type 0
+abbrev pub IsAlikeFrom : State → (Field → Bool) → List ℕ → Left → Type 0
 IsAlikeFrom s passes bytes rest =
     (p q : Progress) → IsAt s bytes rest p → IsAt s bytes rest q → (stream : Stream) → IsStream stream
-    → passes (rest_of rest (ruling_of s.terms) (drawing_from stream 0 p)).field ≡ passes (rest_of rest (ruling_of s.terms) (drawing_from stream 0 q)).field
+    → passes (left_of rest (ruling_of s.terms) (drawing_from stream 0 p)).field ≡ passes (left_of rest (ruling_of s.terms) (drawing_from stream 0 q)).field
 
 abbrev pub AreAlikeFrom : State → (Field → Bool) → Middles → Type 0
 AreAlikeFrom s passes middles =
-    (k : ℕ) → (past : Middle) → (rest : Rest) → k < middles.len → (slice_index_or middles.list k past).rest ≡ Some rest
+    (k : ℕ) → (past : Middle) → (rest : Left) → k < middles.len → (slice_index_or middles.list k past).rest ≡ Some rest
     → IsAlikeFrom s passes (slice_index_or middles.list k past).bytes rest
 
 -- A list gets the part of a battle that the kept positions have.

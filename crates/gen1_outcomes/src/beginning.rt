@@ -2,12 +2,16 @@
 
 ghost use Rattle.std.specs.Prelude.{false, true, ◌≡◌};
 ghost use Rattle.gen1_rolls.specs.Draws.{Steps};
-ghost use Rattle.gen1_layout.specs.Words.{Reads, ReadsPacked};
+ghost use Rattle.gen1_layout.specs.Words.{Bool, Frame, Progress, Reads, ReadsPacked, Shows};
 ghost use Rattle.gen1_machine.specs.Falls.{close};
-ghost use Rattle.gen1_machine.specs.Turn.{of_side};
+ghost use Rattle.gen1_machine.specs.Ruling.{ruling_of};
+ghost use Rattle.gen1_machine.specs.Step.{close_update};
+ghost use Rattle.gen1_machine.specs.Turn.{end_turn, is_cut, of_side};
 ghost use Rattle.gen1_layout.specs.Operations.{DoesAnyway, between};
 ghost use Rattle.gen1_outcomes.specs.Listing.{untold};
-ghost use Rattle.gen1_outcomes.specs.Beginning.{BeginsTurn, EndsUpdate, asks_for_move, have_two_actions, is_move};
+ghost use Rattle.gen1_turn.specs.TwoParts.{RollsDamage};
+ghost use Rattle.gen1_outcomes.specs.Beginning.{BeginsTurn, EndsUpdate, LeadsTo, asks_for_move, have_two_actions, is_move};
+ghost use Rattle.gen1_outcomes.specs.Exchanged.{PlaysRoll};
 
 use gen1_events::Silent;
 use gen1_hits::Known;
@@ -16,9 +20,12 @@ use gen1_machine::{Choice, Pick, Request, Side};
 use gen1_rolls::Rolls;
 use gen1_status::pick;
 use gen1_switching::{close, close_uncut};
-use gen1_turn::{act_and_suffer_as, end_flinch, end_turn, first_side, set_picked};
+use gen1_turn::{
+    Acted, Roll, act_after_test, act_and_suffer_as, act_to_roll, end_flinch, end_turn, first_side,
+    roll_damage_of, set_picked, test_hit,
+};
 
-/// What the rest of an update depends on besides the bytes of the battle and its draws.
+/// What the rest of an update from its second action on depends on besides the bytes of the battle and its draws.
 #[derive(Clone, Copy, PartialEq, Eq, Debug, Drop)]
 pub struct Rest {
     /// The side that acts second.
@@ -27,8 +34,17 @@ pub struct Rest {
     pub pick: Pick,
     /// Its action is skipped, because it was asleep or frozen when Haze was used.
     pub skips: bool,
-    /// The turn was cut before its action, and the update is closed.
+    /// The update is closed: the turn was cut before its action, or the action was played.
     pub is_cut: bool,
+}
+
+/// What is left of an update at a position, besides the bytes of the battle.
+#[derive(Clone, Copy, PartialEq, Eq, Debug, Drop)]
+pub enum Left {
+    /// The second action, and the close of the update.
+    Second(Rest),
+    /// The action of a side, the second one, from the roll of its damage on, and the close.
+    Roll(Side, Roll),
 }
 
 /// Whether both sides use a move, so that the update has two actions.
@@ -102,8 +118,79 @@ fn of_side(side: Side, one: Pick, two: Pick) -> Pick
     }
 }
 
-/// Plays the rest of an update from its second action: this action, and the close. Nothing is left if the turn was cut.
-pub(crate) fn end<R: Rolls>(battle: &mut Packed, rest: Rest, random: &mut R)
+/// Plays the second action of an update up to the roll of its damage. If no damage of 2 or more is rolled, it plays the whole rest of the
+/// update, and nothing is left.
+pub(crate) fn lead<R: Rolls>(battle: &mut Packed, rest: Rest, random: &mut R) -> Left
+    ensures leads { LeadsTo R.drawing random battle rest result }
+    ensures steps { Steps R.drawing random }
+{
+    if rest.is_cut {
+        return Left::Second(rest);
+    }
+    let mut known = Known {
+        skips: rest.skips,
+        ..Known::new()
+    };
+    let acted = act_to_roll(
+        battle,
+        rest.second,
+        rest.pick,
+        &mut known,
+        random,
+        &mut Silent,
+    );
+    match acted {
+        Acted::Rolls(roll) => Left::Roll(rest.second, roll),
+        Acted::Ended(falls) => {
+            close_turn(battle, falls, known.side);
+            Left::Second(Rest {
+                is_cut: true,
+                ..rest
+            })
+        }
+    }
+}
+
+/// Plays the rest of an update from the roll of the damage of its second action on: this action, with its hit test before the roll, and the
+/// close. A miss rolls no damage.
+pub(crate) fn end_roll<R: Rolls>(battle: &mut Packed, side: Side, roll: Roll, random: &mut R)
+    ensures plays { PlaysRoll R.drawing random.old random.new battle.old battle.new side roll }
+    ensures steps { Steps R.drawing random }
+{
+    let id = roll.id;
+    let tested = Roll {
+        id,
+        damage: roll.damage,
+        going_on: roll.going_on,
+        critical: roll.critical,
+    };
+    let mut known = Known::new();
+    test_hit(battle, side, tested, &mut known, random);
+    roll_unless_missed(known.missed, battle, side, roll, random);
+    let falls = act_after_test(battle, side, id, &mut known, random, &mut Silent);
+    close_turn(battle, falls, known.side);
+}
+
+// Rolls the damage of an action whose hit test was before, if it hit.
+fn roll_unless_missed<R: Rolls>(
+    missed: bool,
+    battle: &mut Packed,
+    side: Side,
+    roll: Roll,
+    random: &mut R,
+)
+    ensures rolls { missed ≡ false → RollsDamage R.drawing random side roll battle }
+    ensures same { missed ≡ true → battle.new ≡ battle.old }
+    ensures still { missed ≡ true → random.new ≡ random.old }
+    ensures steps { Steps R.drawing random }
+{
+    if !missed {
+        roll_damage_of(battle, side, roll, random);
+    }
+}
+
+/// Plays the rest of an update from its second action on: this action, and the close. Nothing is left if the update is closed.
+pub(crate) fn end_second<R: Rolls>(battle: &mut Packed, rest: Rest, random: &mut R)
     ensures ends { EndsUpdate R.drawing random battle rest }
     ensures steps { Steps R.drawing random }
 {
@@ -114,15 +201,31 @@ pub(crate) fn end<R: Rolls>(battle: &mut Packed, rest: Rest, random: &mut R)
         skips: rest.skips,
         ..Known::new()
     };
-    if act_and_suffer_as(
+    let falls = act_and_suffer_as(
         battle,
         rest.second,
         rest.pick,
         &mut known,
         random,
         &mut Silent,
-    ) {
-        close(battle, known.side, &mut Silent);
+    );
+    close_turn(battle, falls, known.side);
+}
+
+// The close of an update after its second action and the residual damage. If the rest of the turn isn't skipped, the turn ends before.
+// `actor` acted last.
+fn close_turn(battle: &mut Packed, falls: bool, actor: Side)
+    ensures cut { falls ≡ true → (g : Frame) (p : Progress) (stopped : Bool)
+        → g.action.side ≡ actor → Shows g battle.old untold stopped p
+        → (ends : Bool) × Shows g battle.new untold ends
+        (close_update (ruling_of g.setting.terms) p) }
+    ensures whole { falls ≡ false → (g : Frame) (p : Progress) → is_cut p ≡ false
+        → Shows g battle.old untold false p
+        → (ends : Bool) × Shows g battle.new untold ends
+        (close_update (ruling_of g.setting.terms) (end_turn p)) }
+{
+    if falls {
+        close(battle, actor, &mut Silent);
         return;
     }
     end_turn(battle);

@@ -3,7 +3,7 @@ ghost use Rattle.std.specs.Prelude.{IfErr, IfNone, IfOk, IfSome, IsFalse, IsOkUn
 ghost use Rattle.gen1_layout.specs.Parts.{joined, parts_of};
 ghost use Rattle.gen1_outcomes.specs.declared.fault.OutcomesFault.TheVariants.{Size};
 
-use crate::beginning::Rest;
+use crate::beginning::{Left, Rest};
 use crate::chances::plus;
 use crate::fault::OutcomesFault;
 use crate::merging::hash;
@@ -12,16 +12,17 @@ use crate::script::DEPTH;
 use gen1_layout::Packed;
 
 /// How many positions are kept at once.
-pub const MIDDLES: usize = 16;
+pub const MIDDLES: usize = 32;
 
-/// A position between the two actions of a turn, or the beginning of an update that is not played in two parts.
+/// A position of a turn before its second action, or before the roll of that action's damage; or the beginning of an update that is played
+/// in one part.
 #[derive(Clone, Copy, PartialEq, Eq, Debug, Drop)]
 pub struct Middle {
     /// The bytes of the battle. At the beginning they are not kept.
     pub bytes: [u8; 384],
     /// What else the rest of the update depends on. `None` at the beginning.
-    pub rest: Option<Rest>,
-    /// A number that is equal for equal bytes.
+    pub rest: Option<Left>,
+    /// A number that is equal for equal bytes, or 0 where positions are not compared.
     pub hash: u64,
     /// How many draws one way has that leads there.
     pub draws: usize,
@@ -39,7 +40,7 @@ impl Middle {
     ghost use Rattle.std.specs.Prelude.{None, Some};
 
     /// Where one way leads, which has these draws.
-    pub fn new(battle: &Packed, rest: Rest, nodes: &Nodes, chance: Chance) -> Self
+    pub fn new(battle: &Packed, rest: Left, nodes: &Nodes, chance: Chance) -> Self
         ensures bytes { result.bytes ≡ joined battle.now }
         ensures rest { result.rest ≡ Some rest }
         ensures draws { result.draws ≡ nodes.now.len }
@@ -55,6 +56,27 @@ impl Middle {
             draws: nodes.len,
             chance,
             ways: 1,
+        }
+    }
+
+    /// Where one way leads from this position, which has these draws more.
+    pub fn then(&self, battle: &Packed, rest: Left, nodes: &Nodes, chance: Chance) -> Self
+        requires few { self.now.draws + nodes.now.len ≤ 24 }
+        ensures bytes { result.bytes ≡ joined battle.now }
+        ensures rest { result.rest ≡ Some rest }
+        ensures draws { result.draws ≡ self.now.draws + nodes.now.len }
+        ensures chance { result.chance ≡ chance }
+        ensures ways { result.ways ≡ self.now.ways }
+    {
+        let mut bytes = [0; 384];
+        bytes.copy_from_slice(battle.as_bytes());
+        Middle {
+            bytes,
+            rest: Some(rest),
+            hash: 0,
+            draws: self.draws + nodes.len,
+            chance,
+            ways: self.ways,
         }
     }
 
@@ -136,19 +158,27 @@ impl Middle {
 }
 
 // Whether both are those of positions, and the same.
-fn are_same(one: Option<Rest>, other: Option<Rest>) -> bool
+fn are_same(one: Option<Left>, other: Option<Left>) -> bool
     ensures same { IsTrue result → one ≡ other }
     ensures differ { IsFalse result → (one ≡ None) ⊎ (one ≢ other) }
 {
     match (one, other) {
-        (Some(rest), Some(others)) => {
-            rest.second == others.second
-                && rest.pick == others.pick
-                && rest.skips == others.skips
-                && rest.is_cut == others.is_cut
+        (Some(Left::Second(rest)), Some(Left::Second(others))) => are_equal(rest, others),
+        (Some(Left::Roll(side, roll)), Some(Left::Roll(another, others))) => {
+            side == another && roll == others
         }
         _ => false,
     }
+}
+
+fn are_equal(rest: Rest, others: Rest) -> bool
+    ensures same { IsTrue result → rest ≡ others }
+    ensures differ { IsFalse result → rest ≢ others }
+{
+    rest.second == others.second
+        && rest.pick == others.pick
+        && rest.skips == others.skips
+        && rest.is_cut == others.is_cut
 }
 
 /// A list of positions.
@@ -158,7 +188,7 @@ pub struct Middles {
     pub list: [Middle; MIDDLES],
     /// How many there are.
     pub len: usize,
-    ghost few: { len ≤ 16 },
+    ghost few: { len ≤ 32 },
 }
 
 impl Middles {
@@ -176,8 +206,8 @@ impl Middles {
 
     /// Whether there is no place left.
     pub fn is_full(&self) -> bool
-        ensures room { IsFalse result → self.now.len < 16 }
-        ensures full { IsTrue result → 16 ≤ self.now.len }
+        ensures room { IsFalse result → self.now.len < 32 }
+        ensures full { IsTrue result → 32 ≤ self.now.len }
     {
         self.len >= MIDDLES
     }
@@ -195,7 +225,7 @@ impl Middles {
     ///
     /// `Size`, if 128 bits do not hold a sum of two probabilities, or 32 bits a number of ways.
     pub fn add(&mut self, middle: &Middle) -> Result<(), OutcomesFault>
-        requires room { self.old.len < 16 }
+        requires room { self.old.len < 32 }
         ensures added { OnOk result (IsAdded middle.now self.old self.new) }
         ensures next { OnOk result ((self.new.len ≡ self.old.len)
             ⊎ HasNone middle.now self.old.len self.old.list) }
@@ -229,7 +259,7 @@ impl Middles {
 
     // Puts a position into the next place.
     fn put(&mut self, middle: &Middle)
-        requires { self.old.len < 16 }
+        requires { self.old.len < 32 }
         ensures { IsPut middle.now self.old self.new }
     {
         self.list[self.len] = *middle;

@@ -452,6 +452,7 @@ impl Nodes {
         ensures done { IsFalse result → AllDone self.old }
         ensures left { IsTrue result → (bytes : ℕ → ℕ) → AreBytes bytes → AreLeft self.old bytes
             → AreToCome self.new bytes }
+        ensures options { self.new.options ≡ self.old.options }
     {
         self.at = 0;
         'places: for _ in 0..DEPTH {

@@ -13,6 +13,7 @@ ghost use Rattle.gen1_outcomes.specs.Merging.{AreDistinct, IsIndexed, IsShort, L
 ghost use Rattle.gen1_outcomes.specs.Shares.{CountsEach, EachIsProbable, StayProbable, TakesEach, taken};
 ghost use Rattle.gen1_outcomes.specs.Weights.{AddsPart, AddsPending, AddsUpdate, HasProbabilities, KeepsPending};
 
+use crate::beginning::Left;
 use crate::chances::is_below;
 use crate::fault::OutcomesFault;
 use crate::merging::{Tally, add, leave_out};
@@ -33,8 +34,8 @@ pub struct Outcomes {
     pub whole: u128,
     /// The weight of all that is left out.
     pub left_out: u128,
-    /// How many ways the update has. A branch that is left out is one. Ways that agree after the first action are played on
-    /// once.
+    /// How many ways it went through. A branch that is left out is one. Ways that agree after the first action are played on
+    /// once, and count each. A miss of the second action is one, whatever it would roll.
     pub ways: u32,
 }
 
@@ -215,7 +216,7 @@ fn keep(
     successors: &mut [Successor],
     tally: &mut Tally,
 ) -> Result<(), OutcomesFault>
-    requires room { middles.old.len < 16 }
+    requires room { middles.old.len < 32 }
     requires within { tally.old.count ≤ length successors.old }
     ensures count { tally.new.count ≡ tally.old.count }
     ensures battles { AreThose successors.old successors.new }
@@ -248,7 +249,7 @@ fn make_room(
 ) -> Result<(), OutcomesFault>
     requires reached { AreReached ways.now middles.old }
     requires within { tally.old.count ≤ length successors.old }
-    ensures room { OnOk result (middles.new.len < 16) }
+    ensures room { OnOk result (middles.new.len < 32) }
     ensures reached { OnOk result (AreReached ways.now middles.new) }
     ensures within { tally.new.count ≤ length successors.new }
     ensures follow { OnOk result (StillFollow ways.now tally.old.count successors.old
@@ -341,10 +342,108 @@ fn finish(
     ensures short { IfErr result (λ why.
         IsShort why tally.new.count (length successors.new) table.new) }
 {
+    match middle.rest {
+        Some(Left::Second(rest)) if !rest.is_cut => {
+            finish_in_parts(ways, middle, successors, table, tally)
+        }
+        _ => finish_at_once(
+            ways,
+            middle,
+            &mut ways.restart(middle),
+            successors,
+            table,
+            tally,
+        ),
+    }
+}
+
+// Adds what a position before the second action leads to: first, the ways up to the roll of its damage.
+fn finish_in_parts(
+    ways: &Ways,
+    middle: &Middle,
+    successors: &mut [Successor],
+    table: &mut [u32],
+    tally: &mut Tally,
+) -> Result<(), OutcomesFault>
+    requires reached { IsReached ways.now middle.now }
+    requires within { tally.old.count ≤ length successors.old }
+    ensures within { tally.new.count ≤ length successors.new }
+    ensures follow { OnOk result (StillFollow ways.now tally.old.count successors.old
+        tally.new.count successors.new) }
+    ensures every { OnOk result (IsExact ways.now.options → tally.old.least ≡ 0 → (s : State)
+        → Offers ways.now s
+        → ListsFrom ways.now middle.now s tally.new.count successors.new) }
+    ensures parts { OnOk result (IsExact ways.now.options → tally.old.least ≡ 0
+        → IsIndexed table.old tally.old.count successors.old → (s : State) → Offers ways.now s
+        → AddsPart ways.now middle.now s tally.old successors.old tally.new successors.new) }
+    ensures keeps { OnOk result (Extends tally.old.count successors.old tally.new.count
+        successors.new) }
+    ensures left_out { OnOk result (LeavesOut tally.old tally.new) }
+    ensures probable { OnOk result (StayProbable tally.old successors.old tally.new
+        successors.new) }
+    ensures ways { OnOk result (CountsEach middle.now.ways tally.old tally.new) }
+    ensures takes { TakesEach tally.old tally.new table.old table.new }
+    ensures indexed { OnOk result (StayIndexed tally.old successors.old table.old tally.new
+        successors.new table.new) }
+    ensures short { IfErr result (λ why.
+        IsShort why tally.new.count (length successors.new) table.new) }
+{
     let mut nodes = ways.restart(middle);
+    let mut others = ways.restart(middle);
+    'walk: for _ in 0..u32::MAX {
+        let Some(to) = ways.lead(&mut nodes, middle) else {
+            return Err(OutcomesFault::Size);
+        };
+        // A way that ends before it had all its draws. No known update has one.
+        if !nodes.is_past() {
+            return Err(OutcomesFault::Size);
+        }
+        finish_at_once(ways, &to, &mut others, successors, table, tally)?;
+        if !nodes.advance() {
+            return Ok(());
+        }
+    }
+    Err(OutcomesFault::Size)
+}
+
+// Adds what a position leads to whose rest is played in one part. The nodes may have any draws.
+fn finish_at_once(
+    ways: &Ways,
+    middle: &Middle,
+    nodes: &mut Nodes,
+    successors: &mut [Successor],
+    table: &mut [u32],
+    tally: &mut Tally,
+) -> Result<(), OutcomesFault>
+    requires reached { IsReached ways.now middle.now }
+    requires options { nodes.old.options ≡ ways.now.options }
+    requires within { tally.old.count ≤ length successors.old }
+    ensures options { nodes.new.options ≡ ways.now.options }
+    ensures within { tally.new.count ≤ length successors.new }
+    ensures follow { OnOk result (StillFollow ways.now tally.old.count successors.old
+        tally.new.count successors.new) }
+    ensures every { OnOk result (IsExact ways.now.options → tally.old.least ≡ 0 → (s : State)
+        → Offers ways.now s
+        → ListsFrom ways.now middle.now s tally.new.count successors.new) }
+    ensures parts { OnOk result (IsExact ways.now.options → tally.old.least ≡ 0
+        → IsIndexed table.old tally.old.count successors.old → (s : State) → Offers ways.now s
+        → AddsPart ways.now middle.now s tally.old successors.old tally.new successors.new) }
+    ensures keeps { OnOk result (Extends tally.old.count successors.old tally.new.count
+        successors.new) }
+    ensures left_out { OnOk result (LeavesOut tally.old tally.new) }
+    ensures probable { OnOk result (StayProbable tally.old successors.old tally.new
+        successors.new) }
+    ensures ways { OnOk result (CountsEach middle.now.ways tally.old tally.new) }
+    ensures takes { TakesEach tally.old tally.new table.old table.new }
+    ensures indexed { OnOk result (StayIndexed tally.old successors.old table.old tally.new
+        successors.new table.new) }
+    ensures short { IfErr result (λ why.
+        IsShort why tally.new.count (length successors.new) table.new) }
+{
+    nodes.clear(middle.chance);
     let mut next = copy_of(ways.start());
     'walk: for _ in 0..u32::MAX {
-        let chance = ways.go_on(&mut nodes, middle, &mut next)?;
+        let chance = ways.go_on(nodes, middle, &mut next)?;
         add(successors, table, tally, &next, chance)?;
         tally.count_ways(middle.ways)?;
         if !nodes.advance() {

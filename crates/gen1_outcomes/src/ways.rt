@@ -1,5 +1,5 @@
 //! Each way of an update apart (docs/MECHANICS.md, "Link numbers").
-ghost use Rattle.std.specs.Prelude.{IfErr, IfNone, IfOk, IfSome, IsOk, IsOkUnless, Some, [], false, ◌≡◌};
+ghost use Rattle.std.specs.Prelude.{IfErr, IfNone, IfOk, IfSome, IsOk, IsOkUnless, Some, [], false, ◌≡◌, ◌⊎◌};
 ghost use Rattle.gen1_machine.specs.State.{State};
 ghost use Rattle.gen1_layout.specs.Within.{Stands};
 ghost use Rattle.gen1_layout.specs.Words.{HasRoom, Reads, ReadsPacked};
@@ -8,9 +8,9 @@ ghost use Rattle.gen1_outcomes.specs.Beginning.{have_two_actions};
 ghost use Rattle.gen1_outcomes.specs.declared.fault.OutcomesFault.TheVariants.{Size};
 ghost use Rattle.gen1_outcomes.specs.Following.{CanFollow, IsBegun, PlaysNext};
 ghost use Rattle.gen1_outcomes.specs.Nodes.{IsChance, IsTooLarge};
-ghost use Rattle.gen1_outcomes.specs.Middles.{IsTooLong, PlaysOn, Reaches};
+ghost use Rattle.gen1_outcomes.specs.Middles.{IsElsewhere, IsTooLong, PlaysOn, Reaches, ReachesFrom};
 
-use crate::beginning::{begin, end, have_two_actions};
+use crate::beginning::{Left, begin, end_roll, end_second, have_two_actions, lead};
 use crate::explorer::{Explorer, Noted};
 use crate::fault::OutcomesFault;
 use crate::middles::Middle;
@@ -148,8 +148,34 @@ impl Ways {
         explorer.draws_a_stream();
         let rest = begin(&mut battle, one, two, &mut explorer);
         match nodes.chance() {
-            Some(chance) => Some(Middle::new(&battle, rest, nodes, chance)),
+            Some(chance) => Some(Middle::new(&battle, Left::Second(rest), nodes, chance)),
             None => None,
+        }
+    }
+
+    /// Plays on from a position before the second action, up to the roll of its damage or to the end, in the way that the nodes are at. `None`
+    /// if that way is too large, or if the position is another one.
+    pub(crate) fn lead(&self, nodes: &mut Nodes, middle: &Middle) -> Option<Middle>
+        requires options { nodes.old.options ≡ self.now.options }
+        ensures options { nodes.new.options ≡ self.now.options }
+        ensures chance { IfSome result (λ to. IsChance nodes.new to.chance) }
+        ensures ways { IfSome result (λ to. to.ways ≡ middle.now.ways) }
+        ensures reaches { IfSome result (λ to. ReachesFrom self.now middle.now nodes.old nodes.new to) }
+        ensures fits { IfSome result (λ _. nodes.new.too_large ≡ false) }
+        ensures large { IfNone result (IsTooLong middle.now nodes.new ⊎ IsElsewhere middle.now) }
+    {
+        let Some(Left::Second(rest)) = middle.rest else {
+            return None;
+        };
+        let mut battle = copy_of(&self.start);
+        middle.write_to(&mut battle);
+        let path = nodes.path();
+        let mut explorer = Explorer::new(path, Noted::of(&mut *nodes));
+        explorer.draws_a_stream();
+        let left = lead(&mut battle, rest, &mut explorer);
+        match middle.chance_with(nodes) {
+            Ok(chance) => Some(middle.then(&battle, left, nodes, chance)),
+            Err(_) => None,
         }
     }
 
@@ -198,9 +224,13 @@ impl Ways {
         let mut explorer = Explorer::new(path, Noted::of(&mut *nodes));
         explorer.draws_a_stream();
         match middle.rest {
-            Some(rest) => {
+            Some(Left::Second(rest)) => {
                 middle.write_to(battle);
-                end(battle, rest, &mut explorer);
+                end_second(battle, rest, &mut explorer);
+            }
+            Some(Left::Roll(side, roll)) => {
+                middle.write_to(battle);
+                end_roll(battle, side, roll, &mut explorer);
             }
             None => {
                 *battle = copy_of(&self.start);

@@ -155,7 +155,8 @@ pub fn expect_sums_of_ways(options: OutcomeOptions, battle: &Packed, one: Choice
             chance.num * (list.outcomes.whole / chance.whole);
         played += 1;
     }
-    assert_eq!(played, list.outcomes.ways);
+    // A list goes through a miss of the second action once, whatever it would roll.
+    assert!(list.outcomes.ways <= played);
     assert_eq!(sums.len(), weights.len());
     for (bytes, sum) in sums {
         assert_eq!(Some(&sum), weights.get(&bytes[..]));

@@ -168,9 +168,12 @@ mod beginning {
     use crate::generated::rolls::Rolls;
     use crate::generated::status::pick;
     use crate::generated::switching::{close, close_uncut};
-    use crate::generated::turn::{act_and_suffer_as, end_flinch, end_turn, first_side, set_picked};
+    use crate::generated::turn::{
+        Acted, Roll, act_after_test, act_and_suffer_as, act_to_roll, end_flinch, end_turn, first_side,
+        roll_damage_of, set_picked, test_hit,
+    };
 
-    /// What the rest of an update depends on besides the bytes of the battle and its draws.
+    /// What the rest of an update from its second action on depends on besides the bytes of the battle and its draws.
     #[derive(Clone, Copy, PartialEq, Eq, Debug)]
     pub struct Rest {
         /// The side that acts second.
@@ -179,8 +182,17 @@ mod beginning {
         pub pick: Pick,
         /// Its action is skipped, because it was asleep or frozen when Haze was used.
         pub skips: bool,
-        /// The turn was cut before its action, and the update is closed.
+        /// The update is closed: the turn was cut before its action, or the action was played.
         pub is_cut: bool,
+    }
+
+    /// What is left of an update at a position, besides the bytes of the battle.
+    #[derive(Clone, Copy, PartialEq, Eq, Debug)]
+    pub enum Left {
+        /// The second action, and the close of the update.
+        Second(Rest),
+        /// The action of a side, the second one, from the roll of its damage on, and the close.
+        Roll(Side, Roll),
     }
 
     /// Whether both sides use a move, so that the update has two actions.
@@ -238,8 +250,68 @@ mod beginning {
         }
     }
 
-    /// Plays the rest of an update from its second action: this action, and the close. Nothing is left if the turn was cut.
-    pub(crate) fn end<R: Rolls>(battle: &mut Packed, rest: Rest, random: &mut R) {
+    /// Plays the second action of an update up to the roll of its damage. If no damage of 2 or more is rolled, it plays the whole rest of the
+    /// update, and nothing is left.
+    pub(crate) fn lead<R: Rolls>(battle: &mut Packed, rest: Rest, random: &mut R) -> Left {
+        if rest.is_cut {
+            return Left::Second(rest);
+        }
+        let mut known = Known {
+            skips: rest.skips,
+            ..Known::new()
+        };
+        let acted = act_to_roll(
+            battle,
+            rest.second,
+            rest.pick,
+            &mut known,
+            random,
+            &mut Silent,
+        );
+        match acted {
+            Acted::Rolls(roll) => Left::Roll(rest.second, roll),
+            Acted::Ended(falls) => {
+                close_turn(battle, falls, known.side);
+                Left::Second(Rest {
+                    is_cut: true,
+                    ..rest
+                })
+            }
+        }
+    }
+
+    /// Plays the rest of an update from the roll of the damage of its second action on: this action, with its hit test before the roll, and the
+    /// close. A miss rolls no damage.
+    pub(crate) fn end_roll<R: Rolls>(battle: &mut Packed, side: Side, roll: Roll, random: &mut R) {
+        let id = roll.id;
+        let tested = Roll {
+            id,
+            damage: roll.damage,
+            going_on: roll.going_on,
+            critical: roll.critical,
+        };
+        let mut known = Known::new();
+        test_hit(battle, side, tested, &mut known, random);
+        roll_unless_missed(known.missed, battle, side, roll, random);
+        let falls = act_after_test(battle, side, id, &mut known, random, &mut Silent);
+        close_turn(battle, falls, known.side);
+    }
+
+    // Rolls the damage of an action whose hit test was before, if it hit.
+    fn roll_unless_missed<R: Rolls>(
+        missed: bool,
+        battle: &mut Packed,
+        side: Side,
+        roll: Roll,
+        random: &mut R,
+    ) {
+        if !missed {
+            roll_damage_of(battle, side, roll, random);
+        }
+    }
+
+    /// Plays the rest of an update from its second action on: this action, and the close. Nothing is left if the update is closed.
+    pub(crate) fn end_second<R: Rolls>(battle: &mut Packed, rest: Rest, random: &mut R) {
         if rest.is_cut {
             return;
         }
@@ -247,15 +319,22 @@ mod beginning {
             skips: rest.skips,
             ..Known::new()
         };
-        if act_and_suffer_as(
+        let falls = act_and_suffer_as(
             battle,
             rest.second,
             rest.pick,
             &mut known,
             random,
             &mut Silent,
-        ) {
-            close(battle, known.side, &mut Silent);
+        );
+        close_turn(battle, falls, known.side);
+    }
+
+    // The close of an update after its second action and the residual damage. If the rest of the turn isn't skipped, the turn ends before.
+    // `actor` acted last.
+    fn close_turn(battle: &mut Packed, falls: bool, actor: Side) {
+        if falls {
+            close(battle, actor, &mut Silent);
             return;
         }
         end_turn(battle);
@@ -1025,7 +1104,7 @@ mod merging {
 mod middles {
     //! Positions between the two actions of a turn. Positions that agree are merged ([docs/MECHANICS.md, "Link numbers"](https://hibsuloy.example/gen1/blob/main/docs/MECHANICS.md#link-numbers)).
 
-    use crate::generated::outcomes::beginning::Rest;
+    use crate::generated::outcomes::beginning::{Left, Rest};
     use crate::generated::outcomes::chances::plus;
     use crate::generated::outcomes::fault::OutcomesFault;
     use crate::generated::outcomes::merging::hash;
@@ -1034,16 +1113,17 @@ mod middles {
     use crate::generated::layout::Packed;
 
     /// How many positions are kept at once.
-    pub const MIDDLES: usize = 16;
+    pub const MIDDLES: usize = 32;
 
-    /// A position between the two actions of a turn, or the beginning of an update that is not played in two parts.
+    /// A position of a turn before its second action, or before the roll of that action's damage; or the beginning of an update that is played
+    /// in one part.
     #[derive(Clone, Copy, PartialEq, Eq, Debug)]
     pub struct Middle {
         /// The bytes of the battle. At the beginning they are not kept.
         pub bytes: [u8; 384],
         /// What else the rest of the update depends on. `None` at the beginning.
-        pub rest: Option<Rest>,
-        /// A number that is equal for equal bytes.
+        pub rest: Option<Left>,
+        /// A number that is equal for equal bytes, or 0 where positions are not compared.
         pub hash: u64,
         /// How many draws one way has that leads there.
         pub draws: usize,
@@ -1055,7 +1135,7 @@ mod middles {
 
     impl Middle {
         /// Where one way leads, which has these draws.
-        pub fn new(battle: &Packed, rest: Rest, nodes: &Nodes, chance: Chance) -> Self {
+        pub fn new(battle: &Packed, rest: Left, nodes: &Nodes, chance: Chance) -> Self {
             let mut bytes = [0; 384];
             bytes.copy_from_slice(battle.as_bytes());
             Middle {
@@ -1065,6 +1145,20 @@ mod middles {
                 draws: nodes.len,
                 chance,
                 ways: 1,
+            }
+        }
+
+        /// Where one way leads from this position, which has these draws more.
+        pub fn then(&self, battle: &Packed, rest: Left, nodes: &Nodes, chance: Chance) -> Self {
+            let mut bytes = [0; 384];
+            bytes.copy_from_slice(battle.as_bytes());
+            Middle {
+                bytes,
+                rest: Some(rest),
+                hash: 0,
+                draws: self.draws + nodes.len,
+                chance,
+                ways: self.ways,
             }
         }
 
@@ -1125,16 +1219,21 @@ mod middles {
     }
 
     // Whether both are those of positions, and the same.
-    fn are_same(one: Option<Rest>, other: Option<Rest>) -> bool {
+    fn are_same(one: Option<Left>, other: Option<Left>) -> bool {
         match (one, other) {
-            (Some(rest), Some(others)) => {
-                rest.second == others.second
-                    && rest.pick == others.pick
-                    && rest.skips == others.skips
-                    && rest.is_cut == others.is_cut
+            (Some(Left::Second(rest)), Some(Left::Second(others))) => are_equal(rest, others),
+            (Some(Left::Roll(side, roll)), Some(Left::Roll(another, others))) => {
+                side == another && roll == others
             }
             _ => false,
         }
+    }
+
+    fn are_equal(rest: Rest, others: Rest) -> bool {
+        rest.second == others.second
+            && rest.pick == others.pick
+            && rest.skips == others.skips
+            && rest.is_cut == others.is_cut
     }
 
     /// A list of positions.
@@ -1622,6 +1721,7 @@ mod options {
 mod outcomes {
     //! All battles that an update can lead to ([docs/MECHANICS.md, "Link numbers"](https://hibsuloy.example/gen1/blob/main/docs/MECHANICS.md#link-numbers)).
 
+    use crate::generated::outcomes::beginning::Left;
     use crate::generated::outcomes::chances::is_below;
     use crate::generated::outcomes::fault::OutcomesFault;
     use crate::generated::outcomes::merging::{Tally, add, leave_out};
@@ -1642,8 +1742,8 @@ mod outcomes {
         pub whole: u128,
         /// The weight of all that is left out.
         pub left_out: u128,
-        /// How many ways the update has. A branch that is left out is one. Ways that agree after the first action are played on
-        /// once.
+        /// How many ways it went through. A branch that is left out is one. Ways that agree after the first action are played on
+        /// once, and count each. A miss of the second action is one, whatever it would roll.
         pub ways: u32,
     }
 
@@ -1789,10 +1889,60 @@ mod outcomes {
         table: &mut [u32],
         tally: &mut Tally,
     ) -> Result<(), OutcomesFault> {
+        match middle.rest {
+            Some(Left::Second(rest)) if !rest.is_cut => {
+                finish_in_parts(ways, middle, successors, table, tally)
+            }
+            _ => finish_at_once(
+                ways,
+                middle,
+                &mut ways.restart(middle),
+                successors,
+                table,
+                tally,
+            ),
+        }
+    }
+
+    // Adds what a position before the second action leads to: first, the ways up to the roll of its damage.
+    fn finish_in_parts(
+        ways: &Ways,
+        middle: &Middle,
+        successors: &mut [Successor],
+        table: &mut [u32],
+        tally: &mut Tally,
+    ) -> Result<(), OutcomesFault> {
         let mut nodes = ways.restart(middle);
+        let mut others = ways.restart(middle);
+        for _ in 0..u32::MAX {
+            let Some(to) = ways.lead(&mut nodes, middle) else {
+                return Err(OutcomesFault::Size);
+            };
+            // A way that ends before it had all its draws. No known update has one.
+            if !nodes.is_past() {
+                return Err(OutcomesFault::Size);
+            }
+            finish_at_once(ways, &to, &mut others, successors, table, tally)?;
+            if !nodes.advance() {
+                return Ok(());
+            }
+        }
+        Err(OutcomesFault::Size)
+    }
+
+    // Adds what a position leads to whose rest is played in one part. The nodes may have any draws.
+    fn finish_at_once(
+        ways: &Ways,
+        middle: &Middle,
+        nodes: &mut Nodes,
+        successors: &mut [Successor],
+        table: &mut [u32],
+        tally: &mut Tally,
+    ) -> Result<(), OutcomesFault> {
+        nodes.clear(middle.chance);
         let mut next = copy_of(ways.start());
         for _ in 0..u32::MAX {
-            let chance = ways.go_on(&mut nodes, middle, &mut next)?;
+            let chance = ways.go_on(nodes, middle, &mut next)?;
             add(successors, table, tally, &next, chance)?;
             tally.count_ways(middle.ways)?;
             if !nodes.advance() {
@@ -2227,7 +2377,7 @@ mod successor {
 mod ways {
     //! Each way of an update apart ([docs/MECHANICS.md, "Link numbers"](https://hibsuloy.example/gen1/blob/main/docs/MECHANICS.md#link-numbers)).
 
-    use crate::generated::outcomes::beginning::{begin, end, have_two_actions};
+    use crate::generated::outcomes::beginning::{Left, begin, end_roll, end_second, have_two_actions, lead};
     use crate::generated::outcomes::explorer::{Explorer, Noted};
     use crate::generated::outcomes::fault::OutcomesFault;
     use crate::generated::outcomes::middles::Middle;
@@ -2329,8 +2479,26 @@ mod ways {
             explorer.draws_a_stream();
             let rest = begin(&mut battle, one, two, &mut explorer);
             match nodes.chance() {
-                Some(chance) => Some(Middle::new(&battle, rest, nodes, chance)),
+                Some(chance) => Some(Middle::new(&battle, Left::Second(rest), nodes, chance)),
                 None => None,
+            }
+        }
+
+        /// Plays on from a position before the second action, up to the roll of its damage or to the end, in the way that the nodes are at. `None`
+        /// if that way is too large, or if the position is another one.
+        pub(crate) fn lead(&self, nodes: &mut Nodes, middle: &Middle) -> Option<Middle> {
+            let Some(Left::Second(rest)) = middle.rest else {
+                return None;
+            };
+            let mut battle = copy_of(&self.start);
+            middle.write_to(&mut battle);
+            let path = nodes.path();
+            let mut explorer = Explorer::new(path, Noted::of(&mut *nodes));
+            explorer.draws_a_stream();
+            let left = lead(&mut battle, rest, &mut explorer);
+            match middle.chance_with(nodes) {
+                Ok(chance) => Some(middle.then(&battle, left, nodes, chance)),
+                Err(_) => None,
             }
         }
 
@@ -2362,9 +2530,13 @@ mod ways {
             let mut explorer = Explorer::new(path, Noted::of(&mut *nodes));
             explorer.draws_a_stream();
             match middle.rest {
-                Some(rest) => {
+                Some(Left::Second(rest)) => {
                     middle.write_to(battle);
-                    end(battle, rest, &mut explorer);
+                    end_second(battle, rest, &mut explorer);
+                }
+                Some(Left::Roll(side, roll)) => {
+                    middle.write_to(battle);
+                    end_roll(battle, side, roll, &mut explorer);
                 }
                 None => {
                     *battle = copy_of(&self.start);

@@ -27,7 +27,7 @@ use Rattle.gen1_turn.specs.TurnParts.{PartLeaves}
 use Rattle.gen1_turn.proofs.Turns.{flinch-planned, picked-both, picked-fits, play-moves}
 use Rattle.gen1_outcomes.specs.Beginning.{Begins, picked, second_action, unflinched}
 use Rattle.gen1_outcomes.specs.Listing.{untold}
-use Rattle.gen1_outcomes.proofs.Positions.{IsClosed, closed}
+use Rattle.gen1_outcomes.proofs.Closing.{IsClosed, closed}
 use Rattle.gen1_outcomes.proofs.beginning.begin.Goals as goal
 
 other-twice : (s : Side) → other (other s) ≡ s

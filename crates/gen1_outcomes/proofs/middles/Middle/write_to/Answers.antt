@@ -1,5 +1,5 @@
 use Rattle.std.proofs.Common.{◌≡◌, length, arith}
-use Rattle.gen1_outcomes.proofs.Positions.{bytes_written}
+use Rattle.gen1_outcomes.proofs.Closing.{bytes_written}
 use Rattle.gen1_outcomes.proofs.middles.Middle.write_to.Goals as goal
 
 pub returns : goal.returns

@@ -15,7 +15,7 @@ use Rattle.gen1_outcomes.specs.Beginning.{Begins, unflinched}
 use Rattle.gen1_outcomes.specs.Following.{Walk}
 use Rattle.gen1_outcomes.specs.Logs.{logged, place_at}
 use Rattle.gen1_outcomes.specs.Middles.{Reaches}
-use Rattle.gen1_outcomes.proofs.Positions.{within_bytes}
+use Rattle.gen1_outcomes.proofs.Closing.{within_bytes}
 use Rattle.gen1_outcomes.proofs.Logs.{logged_by, notes_keep, same_place}
 use Rattle.gen1_outcomes.proofs.Offered.{way_as}
 use Rattle.gen1_outcomes.proofs.ways.Ways.begin.Goals as goal

@@ -4,16 +4,16 @@ use Rattle.gen1_outcomes.specs.Complete.{Extends, IsExact, Offers}
 use Rattle.gen1_outcomes.specs.Listing.{StillFollow}
 use Rattle.gen1_outcomes.specs.Merging.{IsIndexed, LeavesOut, StayIndexed}
 use Rattle.gen1_outcomes.specs.Shares.{CountsEach, StayProbable, TakesEach}
-use Rattle.gen1_outcomes.proofs.Complete.{IsGoingFrom}
-use Rattle.gen1_outcomes.proofs.Weights.{IsWeighedFrom}
-use Rattle.gen1_outcomes.proofs.outcomes.finish.Given as goal
+use Rattle.gen1_outcomes.proofs.PlayedLists.{IsGoingBy}
+use Rattle.gen1_outcomes.proofs.Weights.{IsTreePlayed, IsWeighedFrom, by_test}
+use Rattle.gen1_outcomes.proofs.outcomes.finish_at_once.Given as goal
 
 abbrev pub invariant-walk : goal.invariant-walk
 invariant-walk l =
     record {
-      every : IsExact l.ways.options → l.fn.tally.least ≡ 0 → IsGoingFrom l.ways l.middle l.nodes l.tally.count l.successors;
+      every : IsExact l.ways.options → l.fn.tally.least ≡ 0 → IsGoingBy l.ways l.middle l.nodes l.tally.count l.successors;
       parts : IsExact l.ways.options → l.fn.tally.least ≡ 0 → IsIndexed l.fn.table l.fn.tally.count l.fn.successors → (s : State) → Offers l.ways s
-          → IsWeighedFrom l.ways l.middle s l.fn.tally l.fn.successors l.nodes l.tally l.successors;
+          → IsWeighedFrom by_test IsTreePlayed l.ways l.middle s l.fn.tally l.fn.successors l.nodes l.tally l.successors;
       since : l.nodes.before ≡ l.middle.chance;
       keeps : Extends l.fn.tally.count l.fn.successors l.tally.count l.successors;
       within : l.tally.count ≤ length l.successors;

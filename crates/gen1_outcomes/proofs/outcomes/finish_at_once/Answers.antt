@@ -1,21 +1,22 @@
 use Rattle.std.proofs.Common.{arith, refl, subst, sym, ◌∙◌, ℕ}
 use Rattle.gen1_outcomes.specs.Merging.{IsIndexed}
-use Rattle.gen1_outcomes.proofs.Complete.{extends_more, extends_none, extends_then, going_first, going_on, gone, past_more}
+use Rattle.gen1_outcomes.proofs.Complete.{extends_more, extends_none, extends_then, going_first, going_on}
 use Rattle.gen1_outcomes.proofs.Lists.{still_more}
+use Rattle.gen1_outcomes.proofs.PlayedLists.{adds_played, listed_by, played_more}
 use Rattle.gen1_outcomes.proofs.Positions.{follows_on}
 use Rattle.gen1_outcomes.proofs.Shares.{counts_more, leaves_then, stay_more}
-use Rattle.gen1_outcomes.proofs.Weights.{adds_part, since_plays, spent_more, weighed_from, weighed_on}
-use Rattle.gen1_outcomes.proofs.outcomes.finish.Goals as goal
+use Rattle.gen1_outcomes.proofs.Weights.{IsTreePlayed, adds_part, by_test, since_plays, spent_more, weighed_from, weighed_on}
+use Rattle.gen1_outcomes.proofs.outcomes.finish_at_once.Goals as goal
 
 pub walk-init : goal.walk-init
 walk-init c =
     record {
-      every = λ exact least. going_first _ _ _ c.restart-nodes.ensures.at c.restart-nodes.ensures.empty;
-      parts = λ exact least are s of. weighed_from c.args.ways.now c.args.middle.now s c.args.tally.now c.args.successors.now c.restart-nodes.result c.restart-nodes.ensures.empty;
-      since = c.restart-nodes.ensures.before;
+      every = λ exact least. going_first _ _ _ c.clear.ensures.at c.clear.ensures.empty;
+      parts = λ exact least are s of. weighed_from by_test IsTreePlayed c.args.ways.now c.args.middle.now s c.args.tally.now c.args.successors.now c.clear.new.self c.clear.ensures.empty;
+      since = c.clear.ensures.before;
       keeps = extends_none _ _;
       within = omega arith;
-      options = c.restart-nodes.ensures.options;
+      options = c.clear.ensures.options ∙ c.requires.options;
       left_out = record { least = refl; none = λ l z. z };
       probable = λ are. are;
       ways = (0, omega arith);
@@ -29,16 +30,16 @@ walk-preserved c =
     record {
       every = λ exact least.
           going_on _ _ c.go_on.new.nodes c.advance.new.self (c.if-not-advance.ensures.on refl) (c.if-not-advance.ensures.left refl)
-          (past_more c.args.ways.now c.args.middle.now c.walk.nodes c.go_on.new.nodes c.go_on.new.battle c.in_ok-chance.chance c.args.tally.now c.walk.tally c.add.new.tally
+          (played_more c.args.ways.now c.args.middle.now c.walk.nodes c.go_on.new.nodes c.go_on.new.battle c.in_ok-chance.chance c.args.tally.now c.walk.tally c.add.new.tally
           c.count_ways.new.self c.walk.successors c.add.new.successors exact least c.walk.invariant.left_out.least c.walk.invariant.options c.in_ok-chance.ensures.fits
           c.in_ok-chance.ensures.plays c.in_ok-add.ensures.adds c.in_ok-add.ensures.first c.in_ok-count_ways.ensures.count (c.walk.invariant.every exact least));
       parts = λ exact least are s of.
-          weighed_on c.args.ways.now c.args.middle.now s c.args.tally.now c.args.successors.now c.go_on.new.nodes c.advance.new.self c.count_ways.new.self c.add.new.successors
+          weighed_on by_test IsTreePlayed c.args.ways.now c.args.middle.now s c.args.tally.now c.args.successors.now c.go_on.new.nodes c.advance.new.self c.count_ways.new.self c.add.new.successors
           (c.if-not-advance.ensures.on refl)
           (spent_more c.args.ways.now c.args.middle.now c.walk.nodes c.go_on.new.nodes c.go_on.new.battle c.in_ok-chance.chance c.args.tally.now c.walk.tally c.add.new.tally
           c.count_ways.new.self c.args.successors.now c.walk.successors c.add.new.successors c.add.new.table exact least c.walk.invariant.left_out.least c.walk.invariant.options
           c.in_ok-chance.ensures.fits c.walk.invariant.since c.in_ok-chance.ensures.plays c.in_ok-chance.ensures.chance c.in_ok-add.ensures.adds c.in_ok-add.ensures.first
-          (c.in_ok-add.ensures.indexed (c.walk.invariant.indexed are)) c.in_ok-count_ways.ensures.counts (c.walk.invariant.every exact least) s of
+          (c.in_ok-add.ensures.indexed (c.walk.invariant.indexed are)) c.in_ok-count_ways.ensures.counts (c.walk.invariant.every exact least).at (c.walk.invariant.every exact least).known s of
           (c.walk.invariant.parts exact least are s of));
       since = (c.if-not-advance.ensures.on refl).since
           ∙ since_plays c.args.ways.now c.args.middle.now c.walk.nodes c.go_on.new.nodes c.go_on.new.battle c.in_ok-chance.ensures.plays c.walk.invariant.since;
@@ -100,17 +101,23 @@ returns-then-not-advance-clause-keeps c =
 
 pub returns-then-not-advance-clause-every : goal.returns-then-not-advance-clause-every
 returns-then-not-advance-clause-every c exact least =
-    gone _ _ c.go_on.new.nodes (c.if-not-advance.ensures.done refl)
-    (past_more c.args.ways.now c.args.middle.now c.walk.nodes c.go_on.new.nodes c.go_on.new.battle c.in_ok-chance.chance c.args.tally.now c.walk.tally c.add.new.tally
+    listed_by c.args.ways.now c.args.middle.now c.go_on.new.nodes c.count_ways.new.self.count c.add.new.successors (c.if-not-advance.ensures.done refl) c.requires.reached
+    (played_more c.args.ways.now c.args.middle.now c.walk.nodes c.go_on.new.nodes c.go_on.new.battle c.in_ok-chance.chance c.args.tally.now c.walk.tally c.add.new.tally
     c.count_ways.new.self c.walk.successors c.add.new.successors exact least c.walk.invariant.left_out.least c.walk.invariant.options c.in_ok-chance.ensures.fits
     c.in_ok-chance.ensures.plays c.in_ok-add.ensures.adds c.in_ok-add.ensures.first c.in_ok-count_ways.ensures.count (c.walk.invariant.every exact least))
 
 pub returns-then-not-advance-clause-parts : goal.returns-then-not-advance-clause-parts
 returns-then-not-advance-clause-parts c exact least are s of =
-    adds_part c.args.ways.now c.args.middle.now s c.args.tally.now c.args.successors.now c.go_on.new.nodes c.count_ways.new.self c.add.new.successors
+    adds_played c.args.ways.now c.args.middle.now s c.args.tally.now c.count_ways.new.self c.args.successors.now c.add.new.successors c.requires.reached of
+    (listed_by c.args.ways.now c.args.middle.now c.go_on.new.nodes c.count_ways.new.self.count c.add.new.successors (c.if-not-advance.ensures.done refl) c.requires.reached
+    (played_more c.args.ways.now c.args.middle.now c.walk.nodes c.go_on.new.nodes c.go_on.new.battle c.in_ok-chance.chance c.args.tally.now c.walk.tally c.add.new.tally
+    c.count_ways.new.self c.walk.successors c.add.new.successors exact least c.walk.invariant.left_out.least c.walk.invariant.options c.in_ok-chance.ensures.fits
+    c.in_ok-chance.ensures.plays c.in_ok-add.ensures.adds c.in_ok-add.ensures.first c.in_ok-count_ways.ensures.count (c.walk.invariant.every exact least))
+    s of)
+    (adds_part by_test IsTreePlayed c.args.ways.now c.args.middle.now s c.args.tally.now c.args.successors.now c.go_on.new.nodes c.count_ways.new.self c.add.new.successors
     (c.if-not-advance.ensures.done refl)
     (spent_more c.args.ways.now c.args.middle.now c.walk.nodes c.go_on.new.nodes c.go_on.new.battle c.in_ok-chance.chance c.args.tally.now c.walk.tally c.add.new.tally
     c.count_ways.new.self c.args.successors.now c.walk.successors c.add.new.successors c.add.new.table exact least c.walk.invariant.left_out.least c.walk.invariant.options
     c.in_ok-chance.ensures.fits c.walk.invariant.since c.in_ok-chance.ensures.plays c.in_ok-chance.ensures.chance c.in_ok-add.ensures.adds c.in_ok-add.ensures.first
-    (c.in_ok-add.ensures.indexed (c.walk.invariant.indexed are)) c.in_ok-count_ways.ensures.counts (c.walk.invariant.every exact least) s of
-    (c.walk.invariant.parts exact least are s of))
+    (c.in_ok-add.ensures.indexed (c.walk.invariant.indexed are)) c.in_ok-count_ways.ensures.counts (c.walk.invariant.every exact least).at
+    (c.walk.invariant.every exact least).known s of (c.walk.invariant.parts exact least are s of)))

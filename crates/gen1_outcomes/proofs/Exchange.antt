@@ -1,0 +1,351 @@
+-- The roll of a damage and the hit test of its action exchange: the fields that the update leads to have equal probabilities.
+use Rattle.std.proofs.Common.{Bool, None, Option, Some, ap, arith, false, if◌then◌else◌, nat_le, nat_lt, refl, subst, sym, true, ℕ, ◌*◌, ◌+◌, ◌<◌, ◌∙◌, ◌≡◌}
+use Rattle.std.proofs.Math.Nat.{eq_of_mul-eq-mul_left, mul_comm}
+use Rattle.std.proofs.lemmas.Bool.Decides.{nat_tests}
+use Rattle.gen1_rolls.specs.Streams.{byte_at, first, span, IsStream, Stream}
+use Rattle.gen1_rolls.proofs.First.{first-exists}
+use Rattle.gen1_layout.proofs.Chain.{choose-false, choose-true, then-goes}
+use Rattle.gen1_layout.specs.Words.{move_at}
+use Rattle.gen1_machine.specs.declared.side.Side.{Side}
+use Rattle.gen1_machine.specs.declared.side.Side.TheVariants.{One, Two}
+use Rattle.gen1_machine.specs.Action.{keep_accuracy, resume, strike}
+use Rattle.gen1_machine.specs.Conditions.{without_trapping}
+use Rattle.gen1_machine.specs.Damage.{is_factor, rotated_right_1, times_factor, varied_by, vary}
+use Rattle.gen1_machine.specs.HitTest.{base_of, hit_or_miss, hit_test, hits_below, miss, scaled_in, set_tested, settled_hit_in, test_by}
+use Rattle.gen1_machine.specs.Laws.{drawing_from, leads_to, Done, IsShare, Search, Tree}
+use Rattle.gen1_machine.specs.Moves.{Move}
+use Rattle.gen1_machine.specs.Progress.{choose, draw, draw_until, given, has_missed, on_action, on_conditions, on_field, set_last_damage, set_missed, stay, unless, unless_stopped, ◌▸◌, Action, Phase, Progress}
+use Rattle.gen1_machine.specs.Ruling.{Ruling, ruling_of}
+use Rattle.gen1_machine.specs.State.{with_last_damage, Field, Terms}
+use Rattle.gen1_machine.specs.Step.{close_update}
+use Rattle.gen1_machine.specs.Turn.{end_turn}
+use Rattle.gen1_machine.proofs.EqualShares.{shares_depend_on_fields}
+use Rattle.gen1_machine.proofs.Shares.{shares_are_probabilities}
+use Rattle.gen1_machine.proofs.Trees.{after-tree, choose-tree, searched, stay-tree, then-tree, tree_rules, HasTree, RulingHasTrees}
+use Rattle.gen1_machine.proofs.TreeWalk.{close_update-tree, hit_or_miss-tree, keep_accuracy-tree, late_effect-tree, resume-tree, ruling-tree, strike-tree, vary-tree}
+use Rattle.gen1_turn.specs.declared.action.two_parts.Roll.{Roll}
+use Rattle.gen1_turn.specs.ActionSteps.{late_part}
+use Rattle.gen1_turn.specs.TurnParts.{suffering}
+use Rattle.gen1_turn.specs.TwoParts.{parts_from_roll, IsRolling}
+use Rattle.gen1_outcomes.specs.Exchanged.{after_test, roll_if_hit, tested_first}
+use Rattle.gen1_outcomes.specs.Beginning.{from_damage}
+use Rattle.gen1_outcomes.proofs.Orders.{search_first, shares_of_orders, test_first, test_tree, Branches, CanFind}
+use Rattle.gen1_outcomes.proofs.Shifts.{suffering-tree}
+use Rattle.gen1_outcomes.proofs.Told.{share-times}
+
+-- The hit test
+
+-- A miss, written out.
+abbrev pub missed_at : Side → Phase
+missed_at s p = on_conditions s without_trapping (set_last_damage 0 (set_missed true p))
+
+miss-is : (s : Side) (p : Progress) → p.stopped ≡ false → miss s p ≡ missed_at s p
+unfolding miss set_missed on_action set_last_damage on_field
+miss-is s p goes =
+    then-goes (set_missed true) (set_last_damage 0 ▸ on_conditions s without_trapping) p goes
+    ∙ then-goes (set_last_damage 0) (on_conditions s without_trapping) (set_missed true p) goes
+
+abbrev pub one_of : Side → Bool → Phase
+one_of s hits p = if hits then p else missed_at s p
+
+-- The byte that a test notes.
+abbrev noted : Option Bool → ℕ → ℕ → ℕ
+noted (Some hits) base limit = base
+noted None base limit = limit
+
+-- A test by its accuracy, whether it is settled, and its limit if it isn't.
+abbrev pub tested_by : Side → ℕ → Option Bool → ℕ → Phase
+tested_by s base (Some hits) limit p = one_of s hits (set_tested base p)
+tested_by s base None limit p = one_of s (nat_lt (byte_at p.stream p.drawn) limit) (drawing_from p.stream (p.drawn + 1) (set_tested limit p))
+
+abbrev pub limit_at : Side → Move → Progress → ℕ
+limit_at s move p = scaled_in s (base_of s move p) p.field
+
+abbrev pub tested_at : Side → Move → Progress → Phase
+tested_at s move p = tested_by s (base_of s move p) (settled_hit_in s move p.field) (limit_at s move p)
+
+pub test-is : (s : Side) (move : Move) (p : Progress) → p.stopped ≡ false → hit_or_miss s move p ≡ tested_at s move p p
+unfolding hit_or_miss hit_test test_by given set_tested on_action draw hits_below choose stay
+test-is s move p goes = by (settled_hit_in s move p.field)
+  where
+    base : ℕ
+    base = base_of s move p
+
+    limit : ℕ
+    limit = limit_at s move p
+
+    drawn : Progress
+    drawn = drawing_from p.stream (p.drawn + 1) (set_tested limit p)
+
+    below : (t : Bool) → elim t as (λ _. Progress) [ true ↦ drawn | false ↦ miss s drawn ] ≡ one_of s t drawn
+    below true = refl
+    below false = miss-is s drawn goes
+
+    by : (o : Option Bool) → test_by s base o p ≡ tested_by s base o limit p
+    by (Some true) = refl
+    by (Some false) = then-goes (set_tested base) (miss s) p goes ∙ miss-is s (set_tested base p) goes
+    by None = then-goes (set_tested limit) (draw (hits_below s limit)) p goes ∙ below (nat_lt (byte_at p.stream p.drawn) limit)
+
+-- It doesn't look at the last damage, nor at what is drawn next.
+test-other : (s : Side) (move : Move) (d : ℕ) (p : Progress) (stream : Stream) (n : ℕ) → p.stopped ≡ false
+    → hit_or_miss s move (set_last_damage d (drawing_from stream n p)) ≡ tested_at s move p (set_last_damage d (drawing_from stream n p))
+unfolding set_last_damage on_field with_last_damage
+test-other One move d p stream n goes = test-is One move (set_last_damage d (drawing_from stream n p)) goes
+test-other Two move d p stream n goes = test-is Two move (set_last_damage d (drawing_from stream n p)) goes
+
+-- With another last damage a hit has that damage, and a miss forgets it.
+abbrev pub damaged_if_hit : ℕ → Phase
+damaged_if_hit d = unless has_missed (set_last_damage d)
+
+pub tested_other : (s : Side) (move : Move) (d : ℕ) (p : Progress) → p.stopped ≡ false → p.action.missed ≡ false
+    → hit_or_miss s move (set_last_damage d p) ≡ damaged_if_hit d (hit_or_miss s move p)
+unfolding stay set_last_damage on_field with_last_damage set_tested set_missed on_action on_conditions
+tested_other s move d p goes hits = test-other s move d p p.stream p.drawn goes ∙ by (settled_hit_in s move p.field) ∙ ap (damaged_if_hit d) (sym (test-is s move p goes))
+  where
+    base : ℕ
+    base = base_of s move p
+
+    limit : ℕ
+    limit = limit_at s move p
+
+    one : (t : Bool) (q : Progress) → q.action.missed ≡ false → one_of s t (set_last_damage d q) ≡ damaged_if_hit d (one_of s t q)
+    one true q is = sym (choose-false has_missed stay (set_last_damage d) q is)
+    one false q is = sym (choose-true has_missed stay (set_last_damage d) (missed_at s q) refl)
+
+    by : (o : Option Bool) → tested_by s base o limit (set_last_damage d p) ≡ damaged_if_hit d (tested_by s base o limit p)
+    by (Some t) = one t (set_tested base p) hits
+    by None = one (nat_lt (byte_at p.stream p.drawn) limit) (drawing_from p.stream (p.drawn + 1) (set_tested limit p)) hits
+
+-- Neither the roll nor the test stops
+
+pub vary-stays : (d : ℕ) (p : Progress) → p.stopped ≡ false → (vary d p).stopped ≡ false
+unfolding vary choose draw_until varied_by set_last_damage on_field
+vary-stays d p goes = by (nat_le d 1) (first p.stream p.drawn is_factor)
+  where
+    by : (b : Bool) (o : Option ℕ) → (elim b as (λ _. Progress) [
+      | true ↦ set_last_damage d p
+      | false ↦ elim o as (λ _. Progress) [ Some m ↦ varied_by d (byte_at p.stream m) (record p { drawn = m + 1 }) | None ↦ record p { drawn = p.drawn + span p.stream } ]
+    ]).stopped ≡ false
+    by true o = goes
+    by false (Some m) = goes
+    by false None = goes
+
+pub test-stays : (s : Side) (move : Move) (p : Progress) → p.stopped ≡ false → (hit_or_miss s move p).stopped ≡ false
+unfolding set_tested set_missed on_action on_conditions set_last_damage on_field
+test-stays s move p goes = ap (λ (q : Progress). q.stopped) (test-is s move p goes) ∙ by (settled_hit_in s move p.field)
+  where
+    one : (t : Bool) (q : Progress) → q.stopped ≡ false → (one_of s t q).stopped ≡ false
+    one true q on = on
+    one false q on = on
+
+    by : (o : Option Bool) → (tested_by s (base_of s move p) o (limit_at s move p) p).stopped ≡ false
+    by (Some t) = one t (set_tested (base_of s move p) p) goes
+    by None = one (nat_lt (byte_at p.stream p.drawn) (limit_at s move p)) (drawing_from p.stream (p.drawn + 1) (set_tested (limit_at s move p) p)) goes
+
+-- So the rest of the update is the roll, the test, and what follows.
+pub in_order : (s : Side) (roll : Roll) (r : Ruling) (p : Progress) → IsRolling s roll p
+    → from_damage s roll r p ≡ after_test s (move_at roll.id) r (hit_or_miss s (move_at roll.id) (vary roll.damage p))
+unfolding ◌▸◌
+in_order s roll r p at =
+    let move = move_at roll.id in
+    let rest : Phase = late_part r s move ▸ strike r s move in
+    let stays = vary-stays roll.damage p at.going in
+    let parts : parts_from_roll r s roll p ≡ rest (hit_or_miss s move (vary roll.damage p)) =
+    then-goes (vary roll.damage) (hit_or_miss s move ▸ rest) p stays
+    ∙ then-goes (hit_or_miss s move) rest (vary roll.damage p) (test-stays s move (vary roll.damage p) stays)
+    in
+    ap (λ (q : Progress). close_update r (unless_stopped (suffering s end_turn) (resume (keep_accuracy s q)))) parts
+
+-- Trees
+
+late-tree : (r : Ruling) (s : Side) (move : Move) → RulingHasTrees r → HasTree (late_part r s move)
+late-tree r s move ruling = search (tree_rules, late_effect-tree) depth 14
+
+pub after_test-tree : (s : Side) (move : Move) (r : Ruling) → RulingHasTrees r → HasTree (after_test s move r)
+after_test-tree s move r ruling =
+    after-tree
+    (then-tree
+    (after-tree (after-tree (then-tree (late-tree r s move ruling) (strike-tree r s move ruling)) (keep_accuracy-tree s)) resume-tree)
+    (suffering-tree s))
+    (close_update-tree r ruling)
+
+roll_if_hit-tree : (roll : Roll) → HasTree (roll_if_hit roll)
+roll_if_hit-tree roll = choose-tree (λ p s n. refl) stay-tree (vary-tree roll.damage)
+
+pub tested_first-tree : (s : Side) (roll : Roll) (r : Ruling) → RulingHasTrees r → HasTree (tested_first s roll r)
+tested_first-tree s roll r ruling =
+    after-tree (after-tree (hit_or_miss-tree s (move_at roll.id)) (roll_if_hit-tree roll)) (after_test-tree s (move_at roll.id) r ruling)
+
+-- A damage by the byte of its factor.
+abbrev pub varied : ℕ → ℕ → ℕ
+varied d b = times_factor (rotated_right_1 b) d
+
+-- What follows the roll and the test of a position.
+abbrev branches : Side → Roll → Terms → Progress → Branches
+branches s roll terms p =
+    let move = move_at roll.id in
+    let k = after_test-tree s move (ruling_of terms) (ruling-tree terms) in
+    let limit = limit_at s move p in
+    let q = set_tested (noted (settled_hit_in s move p.field) (base_of s move p) limit) p in
+    record { seeks = is_factor; limit = limit; hit = λ b. k.tree (set_last_damage (varied roll.damage b) q); missed = k.tree (missed_at s q); none = Done p }
+
+abbrev settled : Side → Roll → Progress → Option Bool
+settled s roll p = settled_hit_in s (move_at roll.id) p.field
+
+some_factor : CanFind is_factor
+some_factor = record { byte = 255; small = omega arith; meets = refl }
+
+-- A damage of 2 or more is rolled with the first factor.
+pub rolls : (d : ℕ) → nat_le d 1 ≡ false → (p : Progress) (stream : Stream) (n m : ℕ) → first stream n is_factor ≡ Some m
+    → vary d (drawing_from stream n p) ≡ set_last_damage (varied d (byte_at stream m)) (drawing_from stream (m + 1) p)
+unfolding vary draw_until varied_by
+rolls d large p stream n m found =
+    choose-false (λ _. nat_le d 1) (set_last_damage d) (draw_until is_factor (varied_by d)) (drawing_from stream n p) large
+    ∙ ap (λ (o : Option ℕ). searched o (λ j. set_last_damage (varied d (byte_at stream j)) (drawing_from stream (j + 1) p)) (drawing_from stream (n + span stream) p)) found
+
+search-finds : (found : ℕ → Tree) (none : Tree) (stream : Stream) (n m : ℕ) → first stream n is_factor ≡ Some m
+    → leads_to (Search is_factor found none) stream n ≡ leads_to (found (byte_at stream m)) stream (m + 1)
+unfolding leads_to
+search-finds found none stream n m e = ap (λ (o : Option ℕ). searched o (λ j. leads_to (found (byte_at stream j)) stream (j + 1)) (leads_to none stream (n + span stream))) e
+
+-- What follows the test: a tree for a hit, and the one after a miss.
+test-leads : {f : Phase} (k : HasTree f) (after : Phase) (s : Side) (base : ℕ) (o : Option Bool) (limit : ℕ) (p : Progress) → p.action.missed ≡ false
+    → (hit : Tree) (stream : Stream) → let q = set_tested (noted o base limit) p in ((n : ℕ) → f (after (drawing_from stream n q)) ≡ leads_to hit stream n)
+    → (n : ℕ) → f (unless has_missed after (tested_by s base o limit (drawing_from stream n p))) ≡ leads_to (test_tree o limit hit (k.tree (missed_at s q))) stream n
+unfolding leads_to stay set_tested set_missed on_action on_conditions set_last_damage on_field
+test-leads {f} k after s base o limit p unmissed hit stream hits n = by o hits
+  where
+    one : (t : Bool) (q : Progress) → q.action.missed ≡ false → ((n : ℕ) → f (after (drawing_from stream n q)) ≡ leads_to hit stream n) → (m : ℕ)
+        → f (unless has_missed after (one_of s t (drawing_from stream m q))) ≡ leads_to (if t then hit else k.tree (missed_at s q)) stream m
+    one true q is leads m = ap f (choose-false has_missed stay after (drawing_from stream m q) is) ∙ leads m
+    one false q is leads m =
+        let missed = missed_at s q in
+        ap f (choose-true has_missed stay after (drawing_from stream m missed) refl) ∙ k.leads missed stream m
+
+    by : (o : Option Bool) → let q = set_tested (noted o base limit) p in ((n : ℕ) → f (after (drawing_from stream n q)) ≡ leads_to hit stream n)
+        → f (unless has_missed after (tested_by s base o limit (drawing_from stream n p))) ≡ leads_to (test_tree o limit hit (k.tree (missed_at s q))) stream n
+    by (Some t) leads = one t (set_tested base p) unmissed leads n
+    by None leads = one (nat_lt (byte_at stream n) limit) (set_tested limit p) unmissed leads (n + 1)
+
+-- The machine's order
+
+pub large-damage : (s : Side) (roll : Roll) (p : Progress) → IsRolling s roll p → nat_le roll.damage 1 ≡ false
+large-damage s roll p at = let least = at.damage in grind (least, arith, nat_tests)
+
+pub no-miss : (s : Side) (roll : Roll) (p : Progress) → IsRolling s roll p → p.action.missed ≡ false
+no-miss s roll p at = ap (λ (a : Action). a.missed) at.action
+
+pub rolling-on : (s : Side) (roll : Roll) (p : Progress) (stream : Stream) (n : ℕ) → IsRolling s roll p → IsRolling s roll (drawing_from stream n p)
+rolling-on s roll p stream n at = record { skips = at.skips; going = at.going; action = at.action; usual = at.usual; damage = at.damage }
+
+-- The damage of the factor that was found comes into force if the test hits.
+pub rolled_before : (s : Side) (roll : Roll) (r : Ruling) (p : Progress) → IsRolling s roll p → (stream : Stream) (n m : ℕ) → first stream n is_factor ≡ Some m
+    → from_damage s roll r (drawing_from stream n p)
+    ≡ after_test s (move_at roll.id) r (damaged_if_hit (varied roll.damage (byte_at stream m)) (hit_or_miss s (move_at roll.id) (drawing_from stream (m + 1) p)))
+rolled_before s roll r p at stream n m found =
+    let move = move_at roll.id in
+    in_order s roll r (drawing_from stream n p) (rolling-on s roll p stream n at)
+    ∙ ap (λ (q : Progress). after_test s move r (hit_or_miss s move q)) (rolls roll.damage (large-damage s roll p at) p stream n m found)
+    ∙ ap (after_test s move r) (tested_other s move (varied roll.damage (byte_at stream m)) (drawing_from stream (m + 1) p) at.going (no-miss s roll p at))
+
+rolled-leads : (s : Side) (roll : Roll) (terms : Terms) (p : Progress) → IsRolling s roll p → (stream : Stream) → IsStream stream → (n : ℕ)
+    → from_damage s roll (ruling_of terms) (drawing_from stream n p) ≡ leads_to (search_first (settled s roll p) (branches s roll terms p)) stream n
+unfolding set_tested on_action set_last_damage on_field
+rolled-leads s roll terms p at stream is n =
+    let move = move_at roll.id in
+    let r = ruling_of terms in
+    let k = after_test-tree s move r (ruling-tree terms) in
+    let o = settled s roll p in
+    let base = base_of s move p in
+    let limit = limit_at s move p in
+    let l = branches s roll terms p in
+    let place = first-exists stream is n is_factor some_factor.byte some_factor.small some_factor.meets in
+    let m = place.0 in
+    let d = varied roll.damage (byte_at stream m) in
+    let q = set_last_damage d (set_tested (noted o base limit) p) in
+    rolled_before s roll r p at stream n m place.1
+    ∙ ap (λ (x : Progress). after_test s move r (damaged_if_hit d x)) (test-is s move (drawing_from stream (m + 1) p) at.going)
+    ∙ test-leads k (set_last_damage d) s base o limit p (no-miss s roll p at) (k.tree q) stream (λ i. k.leads q stream i) (m + 1)
+    ∙ sym (search-finds (λ b. test_tree o l.limit (l.hit b) l.missed) l.none stream n m place.1)
+
+-- The test before the roll
+
+tested-leads : (s : Side) (roll : Roll) (terms : Terms) (p : Progress) → IsRolling s roll p → (stream : Stream) → IsStream stream → (n : ℕ)
+    → tested_first s roll (ruling_of terms) (drawing_from stream n p) ≡ leads_to (test_first (settled s roll p) (branches s roll terms p)) stream n
+unfolding set_tested on_action set_last_damage on_field
+tested-leads s roll terms p at stream is n =
+    ap (λ (x : Progress). after_test s move r (roll_if_hit roll x)) (test-is s move (drawing_from stream n p) at.going)
+    ∙ test-leads k (vary roll.damage) s base o limit p (no-miss s roll p at) (Search is_factor l.hit l.none) stream hits n
+  where
+    move : Move
+    move = move_at roll.id
+
+    r : Ruling
+    r = ruling_of terms
+
+    k : HasTree (after_test s move r)
+    k = after_test-tree s move r (ruling-tree terms)
+
+    o : Option Bool
+    o = settled s roll p
+
+    base : ℕ
+    base = base_of s move p
+
+    limit : ℕ
+    limit = limit_at s move p
+
+    l : Branches
+    l = branches s roll terms p
+
+    q : Progress
+    q = set_tested (noted o base limit) p
+
+    hits : (i : ℕ) → after_test s move r (vary roll.damage (drawing_from stream i q)) ≡ leads_to (Search is_factor l.hit l.none) stream i
+    hits i =
+        let place = first-exists stream is i is_factor some_factor.byte some_factor.small some_factor.meets in
+        let m = place.0 in
+        ap (after_test s move r) (rolls roll.damage (large-damage s roll p at) q stream i m place.1)
+        ∙ k.leads (set_last_damage (varied roll.damage (byte_at stream m)) q) stream (m + 1)
+        ∙ sym (search-finds l.hit l.none stream i m place.1)
+
+-- Shares
+
+-- Two fractions that are equal to a third.
+through : (a b c d x w : ℕ) → 0 < w → a * w ≡ x * b → x * d ≡ c * w → a * d ≡ c * b
+through a b c d x w some h k =
+    eq_of_mul-eq-mul_left w some (a * d) (c * b) (omega (arith, ap (λ (y : ℕ). y * d) h, ap (λ (y : ℕ). y * b) k))
+
+-- Shares of trees that are equal for equal wholes are equal fractions.
+fractions : (t u : Tree) (passes : Field → Bool) → ((whole x y : ℕ) → IsShare t passes whole x → IsShare u passes whole y → x ≡ y)
+    → (whole share total part : ℕ) → IsShare t passes whole share → IsShare u passes total part → share * total ≡ part * whole
+fractions t u passes same whole share total part h k =
+    same (whole * total) (share * total) (part * whole) (share-times t passes total whole share h)
+    (subst (λ (w : ℕ). IsShare u passes w (part * whole)) (mul_comm total whole) (share-times u passes whole total part k))
+
+-- Trees of both orders have equal shares.
+pub exchanged_share : (s : Side) (roll : Roll) (terms : Terms) (p : Progress) → IsRolling s roll p → (t u : Tree)
+    → ((stream : Stream) (n : ℕ) → from_damage s roll (ruling_of terms) (drawing_from stream n p) ≡ leads_to t stream n)
+    → ((stream : Stream) (n : ℕ) → tested_first s roll (ruling_of terms) (drawing_from stream n p) ≡ leads_to u stream n)
+    → (passes : Field → Bool) (whole share total part : ℕ) → IsShare t passes whole share → IsShare u passes total part → share * total ≡ part * whole
+exchanged_share s roll terms p at t u rolled tested passes whole share total part h k =
+    let o = settled s roll p in
+    let l = branches s roll terms p in
+    let one = (shares_are_probabilities (search_first o l)).some in
+    let other = (shares_are_probabilities (test_first o l)).some in
+    let mine = one.1.1 passes in
+    let others = other.1.1 passes in
+    let first : share * one.0 ≡ mine.0 * whole =
+    shares_depend_on_fields t (search_first o l)
+    (λ stream is. ap (λ (q : Progress). q.field) (sym (rolled stream 0) ∙ rolled-leads s roll terms p at stream is 0))
+    passes whole share one.0 mine.0 h mine.1
+    in
+    let between : mine.0 * other.0 ≡ others.0 * one.0 =
+    fractions (search_first o l) (test_first o l) passes (shares_of_orders o l some_factor passes) one.0 mine.0 other.0 others.0 mine.1 others.1
+    in
+    let last : others.0 * total ≡ part * other.0 =
+    shares_depend_on_fields (test_first o l) u
+    (λ stream is. ap (λ (q : Progress). q.field) (sym (tested-leads s roll terms p at stream is 0) ∙ tested stream 0))
+    passes other.0 others.0 total part others.1 k
+    in
+    through share whole part total others.0 other.0 other.1.0 (through share whole others.0 other.0 mine.0 one.0 one.1.0 first between) last
