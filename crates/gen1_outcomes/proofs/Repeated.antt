@@ -1,5 +1,5 @@
 -- Words whose bits are set at equal distances.
-use Rattle.std.proofs.Common.{◌≡◌, ◌≢◌, ℕ, zero, suc, ◌*◌, ◌%◌, ◌<◌, ◌^◌, Bool, true, false, ◌==◌, [], ◌∷◌, cond, max, min, nat_lt, get_or, refl, ap, ap₂, sym, ◌∙◌, ◌+◌, ◌-◌, ◌⊎◌, inl, inr, arith, nat_eq}
+use Rattle.std.proofs.Common.{◌≡◌, ◌≢◌, ℕ, zero, suc, ◌*◌, ◌%◌, ◌<◌, ◌≤◌, ◌^◌, Bool, true, false, ◌==◌, [], ◌∷◌, cond, max, min, nat_lt, get_or, refl, ap, ap₂, ◌∙◌, ◌+◌, ◌-◌, ◌⊎◌, inl, inr, arith, nat_eq}
 use Rattle.std.specs.Int.{bit_at}
 use Rattle.std.specs.Int.RustNames.{bit_and, bit_or}
 use Rattle.gen1_rolls.specs.Looks.{rotated_right_1}
@@ -76,32 +76,60 @@ odd_places : (i : ℕ) → i < 64 → bit_at 12297829382473034410 i ≡ cond (1 
 unfolding upto
 odd_places i lt = at 12297829382473034410 2 1 refl i lt
 
--- A word of two masks of ones, one for its even bytes and one for its odd bytes.
-masked_bit : (m n x y u v i : ℕ) → u ≡ cond (0 == i % 2) 1 0 → v ≡ cond (1 == i % 2) 1 0 → x ≡ cond (nat_lt i m) 1 0 → y ≡ cond (nat_lt i n) 1 0
-    → max (min x u) (min y v) ≡ cond (nat_lt i (cond (0 == i % 2) m n)) 1 0
-masked_bit m n x y u v i e f g h = parity (i % 2) refl
-  where
-    parity : (r : ℕ) → r ≡ i % 2 → max (min x u) (min y v) ≡ cond (nat_lt i (cond (0 == i % 2) m n)) 1 0
-    parity zero is = grind (arith, is, e, f, g, h)
-    parity (suc zero) is = grind (arith, is, e, f, g, h)
-    parity (suc (suc r)) is = absurd (omega (arith, is))
+-- Ones of a word that are masked, so that only the places of one parity are left.
+masked_bit : (r x u i : ℕ) (b c : Bool) → r < 2 → u ≡ cond (r == i % 2) 1 0 → x ≡ cond b 1 0 → (r ≡ i % 2 → b ≡ c)
+    → min x u ≡ cond (r == i % 2) (cond c 1 0) 0
+masked_bit r x u i b c lt e f on =
+    elim (same_or r (i % 2)) [
+      | inl is ↦ grind (arith, is, e, f, on is)
+      | inr isn't ↦ grind (arith, isn't, e, f)
+    ]
 
-pub halves_has : (even odd bound least i : ℕ) → i < 64 → even ≡ min (bound - least) 32 → odd ≡ min (bound - (least + 128)) 32
-    → bit_at (bit_or (bit_and (2 ^ min (2 * even) 64 - 1) 6148914691236517205) (bit_and (2 ^ min (2 * odd) 64 - 1) 12297829382473034410)) i
-    ≡ cond (nat_lt (least + rotated_right_1 i) bound) 1 0
-halves_has even odd bound least i lt e f =
-    bit_at_or _ _ i
-    ∙ ap₂ (λ (x y : ℕ). max x y) (bit_at_and _ _ i) (bit_at_and _ _ i)
-    ∙ masked_bit (2 * even) (2 * odd) _ _ _ _ i (even_places i lt) (odd_places i lt) (word_bits (2 * even) i lt) (word_bits (2 * odd) i lt)
-    ∙ ap (λ (b : Bool). cond b 1 0) (by (i % 2) refl)
+pub odd_has : (odd bound least i : ℕ) → i < 64 → odd ≡ min (bound - (least + 128)) 32
+    → bit_at (bit_and (2 ^ min (2 * odd) 64 - 1) 12297829382473034410) i
+    ≡ cond (1 == i % 2) (cond (nat_lt (least + rotated_right_1 i) bound) 1 0) 0
+odd_has odd bound least i lt e =
+    bit_at_and _ _ i
+    ∙ masked_bit 1 _ _ i _ _ (omega arith) (odd_places i lt) (word_bits (2 * odd) i lt)
+    (λ is. same_test i (2 * odd) (least + rotated_right_1 i) bound (λ h. omega (arith, h, e, is, lt)) (λ h. omega (arith, h, e, is, lt)))
+
+even_has : (even bound least i : ℕ) → i < 64 → even ≡ min (bound - least) 32
+    → bit_at (bit_and (2 ^ min (2 * even) 64 - 1) 6148914691236517205) i
+    ≡ cond (0 == i % 2) (cond (nat_lt (least + rotated_right_1 i) bound) 1 0) 0
+even_has even bound least i lt e =
+    bit_at_and _ _ i
+    ∙ masked_bit 0 _ _ i _ _ (omega arith) (even_places i lt) (word_bits (2 * even) i lt)
+    (λ is. same_test i (2 * even) (least + rotated_right_1 i) bound (λ h. omega (arith, h, e, is, lt)) (λ h. omega (arith, h, e, is, lt)))
+
+-- A place is of one parity or of the other.
+of_both : (i t : ℕ) → max (cond (0 == i % 2) t 0) (cond (1 == i % 2) t 0) ≡ t
+of_both i t = by (i % 2) (omega arith)
   where
-    by : (r : ℕ) → r ≡ i % 2 → nat_lt i (cond (0 == i % 2) (2 * even) (2 * odd)) ≡ nat_lt (least + rotated_right_1 i) bound
-    by zero is =
-        ap (λ (n : ℕ). nat_lt i (cond (0 == n) (2 * even) (2 * odd))) (sym is)
-        ∙ same_test i (2 * even) (least + rotated_right_1 i) bound (λ h. omega (arith, h, e, is, lt)) (λ h. omega (arith, h, e, is, lt))
-    by (suc zero) is =
-        ap (λ (n : ℕ). nat_lt i (cond (0 == n) (2 * even) (2 * odd))) (sym is)
-        ∙ same_test i (2 * odd) (least + rotated_right_1 i) bound (λ h. omega (arith, h, f, is, lt)) (λ h. omega (arith, h, f, is, lt))
+    by : (r : ℕ) → r < 2 → max (cond (0 == r) t 0) (cond (1 == r) t 0) ≡ t
+    by zero lt = omega arith
+    by (suc zero) lt = omega arith
+    by (suc (suc r)) lt = absurd (omega (arith, lt))
+
+pub halves_has : (even odds bound least i : ℕ) → i < 64 → even ≡ min (bound - least) 32
+    → bit_at odds i ≡ cond (1 == i % 2) (cond (nat_lt (least + rotated_right_1 i) bound) 1 0) 0
+    → bit_at (bit_or (bit_and (2 ^ min (2 * even) 64 - 1) 6148914691236517205) odds) i ≡ cond (nat_lt (least + rotated_right_1 i) bound) 1 0
+halves_has even odds bound least i lt e f =
+    bit_at_or _ _ i ∙ ap₂ (λ (x y : ℕ). max x y) (even_has even bound least i lt e) f ∙ of_both i _
+
+-- Bytes that are from a number of 128 up to the next are odd.
+pub only_odd : (w first next least i : ℕ) → i < 64 → least ≤ 96 → 128 ≤ first
+    → min w (cond (1 == i % 2) (cond (nat_lt (least + rotated_right_1 i) next) 1 0) 0) - cond (1 == i % 2) (cond (nat_lt (least + rotated_right_1 i) first) 1 0) 0
+    ≡ min w (cond (nat_lt (least + rotated_right_1 i) next) 1 0) - cond (nat_lt (least + rotated_right_1 i) first) 1 0
+only_odd w first next least i lt low from = by (i % 2) refl
+  where
+    below : 0 ≡ i % 2 → nat_lt (least + rotated_right_1 i) first ≡ true
+    below is = same_test (least + rotated_right_1 i) first 0 1 (λ h. omega arith) (λ h. omega (arith, h, is, lt, low, from))
+
+    by : (r : ℕ) → r ≡ i % 2
+        → min w (cond (1 == r) (cond (nat_lt (least + rotated_right_1 i) next) 1 0) 0) - cond (1 == r) (cond (nat_lt (least + rotated_right_1 i) first) 1 0) 0
+        ≡ min w (cond (nat_lt (least + rotated_right_1 i) next) 1 0) - cond (nat_lt (least + rotated_right_1 i) first) 1 0
+    by zero is = rw (below is) (grind arith)
+    by (suc zero) is = refl
     by (suc (suc r)) is = absurd (omega (arith, is))
 
 -- The same word four times.

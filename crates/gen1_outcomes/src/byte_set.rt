@@ -1,5 +1,5 @@
 //! Sets of bytes (docs/MECHANICS.md, "Link numbers").
-ghost use Rattle.std.specs.Prelude.{Bool, IfNone, IfSome, IsFalse, IsTrue, ℕ, min, nat_lt, ◌%◌, ◌*◌, ◌+◌, ◌-◌, ◌^◌, ◌<◌, ◌≡◌, ◌≤◌, ◌≢◌, if◌then◌else◌};
+ghost use Rattle.std.specs.Prelude.{Bool, IfNone, IfSome, IsFalse, IsTrue, ℕ, min, nat_lt, ◌%◌, ◌*◌, ◌+◌, ◌-◌, ◌^◌, ◌<◌, ◌≡◌, ◌≤◌, ◌≢◌, ◌==◌, if◌then◌else◌};
 ghost use Rattle.std.specs.Int.{bit_at};
 ghost use Rattle.gen1_rolls.specs.Looks.{passes, rotated_left_3, rotated_right_1};
 ghost use Rattle.gen1_outcomes.specs.Bytes.{bits_set, has, size};
@@ -157,6 +157,7 @@ impl ByteSet {
     }
 
     /// The bytes of the set that, rotated right by one bit, are from the first number up to the next.
+    #[inline(always)] // docs/SPEED.md, "Hints on inlining"
     pub fn rotated_right_between(&self, first: u16, next: u16) -> ByteSet
         ensures { (b : ℕ) → b < 256 → has result b ≡ min (has self.now b) (if nat_lt (rotated_right_1 b) next then 1 else 0)
             - (if nat_lt (rotated_right_1 b) first then 1 else 0) }
@@ -237,10 +238,14 @@ fn between(first: u16, next: u16, least: u16, word: u64) -> u64
     if word == 0 {
         return 0;
     }
+    if first >= 128 {
+        // The even bytes are below that.
+        return minus(word & odd_below(next, least), odd_below(first, least));
+    }
     minus(word & halves(next, least), halves(first, least))
 }
 
-// The bytes of such a word that, so rotated, are below a bound. Its odd bytes are 128 more than the even ones before them.
+// The bytes of such a word that are below a bound when rotated.
 #[tactic(auto, using(crate::proofs::Repeated::halves_has))]
 fn halves(bound: u16, least: u16) -> u64
     requires { least ≤ 96 }
@@ -248,8 +253,18 @@ fn halves(bound: u16, least: u16) -> u64
         → bit_at result i ≡ (if nat_lt (least + rotated_right_1 i) bound then 1 else 0) }
 {
     let even = bound.saturating_sub(least).min(32) as u8;
+    ones(2 * even) & 0x5555_5555_5555_5555 | odd_below(bound, least)
+}
+
+// The odd bytes of such a word that are below a bound when rotated. Each is 128 more, so rotated, than the even one before it.
+#[tactic(auto, using(crate::proofs::Repeated::odd_has))]
+fn odd_below(bound: u16, least: u16) -> u64
+    requires { least ≤ 96 }
+    ensures { (i : ℕ) → i < 64 → bit_at result i
+        ≡ (if 1 == i % 2 then (if nat_lt (least + rotated_right_1 i) bound then 1 else 0) else 0) }
+{
     let odd = bound.saturating_sub(least + 128).min(32) as u8;
-    ones(2 * even) & 0x5555_5555_5555_5555 | ones(2 * odd) & 0xAAAA_AAAA_AAAA_AAAA
+    ones(2 * odd) & 0xAAAA_AAAA_AAAA_AAAA
 }
 
 // A word of `rotated_below`. Its lower 32 bytes are, rotated, `least` and every eighth number from there, and its higher

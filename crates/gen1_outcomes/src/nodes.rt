@@ -168,6 +168,10 @@ impl Node {
         match self.rest.first() {
             Some(first) => {
                 let class = alike_to(self.damage_classes, self.look, first, &self.rest);
+                if self.damage_classes == 0 {
+                    self.take(first, &class);
+                    return true;
+                }
                 let byte = self.one_for(first, &class);
                 self.take(byte, &self.class_of(byte, first, class));
                 true
@@ -188,17 +192,14 @@ impl Node {
         }
     }
 
-    // The byte of the rest that is played for those that are alike to its first: with classes of damage the middle one, and
-    // else the first.
+    // With classes of damage, the byte of the rest that is played for those that are alike to its first: the middle one of a
+    // roll, and else the first.
     fn one_for(&self, first: u8, class: &ByteSet) -> u8
         requires first { has self.now.rest first ≡ 1 }
         requires class { IsClass self.now.damage_classes self.now.look first self.now.rest class.now }
         ensures left { has self.now.rest result ≡ 1 }
         ensures middle { (run : ByteSet) → IsRun self.now first run → result ≡ middle_of first (size run) }
     {
-        if self.damage_classes == 0 {
-            return first;
-        }
         match self.look {
             Look::Factor { .. } => {
                 // The bytes that a roll of damage accepts are odd.
@@ -517,10 +518,14 @@ pub fn unknown_path(damage_classes: u8) -> [u8; DEPTH]
 fn not_known(damage: u8) -> [u8; DEPTH]
     ensures { slice_index result 0 ≡ damage }
 {
-    let it = damage;
-    [
-        it, it, it, it, it, it, it, it, it, it, it, it, 0, it, 1, it, 2, it, 3, it, 4, it, 5, it,
-    ]
+    let mut path = [damage; DEPTH];
+    path[12] = 0;
+    path[14] = 1;
+    path[16] = 2;
+    path[18] = 3;
+    path[20] = 4;
+    path[22] = 5;
+    path
 }
 
 // The byte whose factor is the middle one of the last class of damage. Without classes it is 255, whose factor is the

@@ -186,7 +186,9 @@ impl Ways {
         ensures at { result.at ≡ 0 }
         ensures before { result.before ≡ middle.now.chance }
     {
-        let mut nodes = Nodes::new(self.options);
+        // A copy costs less than new nodes.
+        let mut nodes = self.nodes;
+        nodes.options = self.options;
         nodes.clear(middle.chance);
         nodes
     }

@@ -463,6 +463,7 @@ mod byte_set {
         }
 
         /// The bytes of the set that, rotated right by one bit, are from the first number up to the next.
+        #[inline(always)] // docs/SPEED.md, "Hints on inlining"
         pub fn rotated_right_between(&self, first: u16, next: u16) -> ByteSet {
             ByteSet {
                 words: [
@@ -518,14 +519,23 @@ mod byte_set {
         if word == 0 {
             return 0;
         }
+        if first >= 128 {
+            // The even bytes are below that.
+            return minus(word & odd_below(next, least), odd_below(first, least));
+        }
         minus(word & halves(next, least), halves(first, least))
     }
 
-    // The bytes of such a word that, so rotated, are below a bound. Its odd bytes are 128 more than the even ones before them.
+    // The bytes of such a word that are below a bound when rotated.
     fn halves(bound: u16, least: u16) -> u64 {
         let even = bound.saturating_sub(least).min(32) as u8;
+        ones(2 * even) & 0x5555_5555_5555_5555 | odd_below(bound, least)
+    }
+
+    // The odd bytes of such a word that are below a bound when rotated. Each is 128 more, so rotated, than the even one before it.
+    fn odd_below(bound: u16, least: u16) -> u64 {
         let odd = bound.saturating_sub(least + 128).min(32) as u8;
-        ones(2 * even) & 0x5555_5555_5555_5555 | ones(2 * odd) & 0xAAAA_AAAA_AAAA_AAAA
+        ones(2 * odd) & 0xAAAA_AAAA_AAAA_AAAA
     }
 
     // A word of `rotated_below`. Its lower 32 bytes are, rotated, `least` and every eighth number from there, and its higher
@@ -1425,6 +1435,10 @@ mod nodes {
             match self.rest.first() {
                 Some(first) => {
                     let class = alike_to(self.damage_classes, self.look, first, &self.rest);
+                    if self.damage_classes == 0 {
+                        self.take(first, &class);
+                        return true;
+                    }
                     let byte = self.one_for(first, &class);
                     self.take(byte, &self.class_of(byte, first, class));
                     true
@@ -1442,12 +1456,9 @@ mod nodes {
             }
         }
 
-        // The byte of the rest that is played for those that are alike to its first: with classes of damage the middle one, and
-        // else the first.
+        // With classes of damage, the byte of the rest that is played for those that are alike to its first: the middle one of a
+        // roll, and else the first.
         fn one_for(&self, first: u8, class: &ByteSet) -> u8 {
-            if self.damage_classes == 0 {
-                return first;
-            }
             match self.look {
                 Look::Factor { .. } => {
                     // The bytes that a roll of damage accepts are odd.
@@ -1685,10 +1696,14 @@ mod nodes {
     // The bytes of draws that are not known yet: the one that a roll of damage is to have. A search that does not accept it
     // finds one of the small numbers near the end, and a roll of damage after it still finds its byte.
     fn not_known(damage: u8) -> [u8; DEPTH] {
-        let it = damage;
-        [
-            it, it, it, it, it, it, it, it, it, it, it, it, 0, it, 1, it, 2, it, 3, it, 4, it, 5, it,
-        ]
+        let mut path = [damage; DEPTH];
+        path[12] = 0;
+        path[14] = 1;
+        path[16] = 2;
+        path[18] = 3;
+        path[20] = 4;
+        path[22] = 5;
+        path
     }
 
     // The byte whose factor is the middle one of the last class of damage. Without classes it is 255, whose factor is the
@@ -2504,7 +2519,9 @@ mod ways {
 
         /// No draw yet of the ways that lead there and go on.
         pub(crate) fn restart(&self, middle: &Middle) -> Nodes {
-            let mut nodes = Nodes::new(self.options);
+            // A copy costs less than new nodes.
+            let mut nodes = self.nodes;
+            nodes.options = self.options;
             nodes.clear(middle.chance);
             nodes
         }
