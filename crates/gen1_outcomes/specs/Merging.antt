@@ -1,7 +1,11 @@
 -- Where a battle is in a list, which array is too short for it, and what a list leaves out.
-use Rattle.std.specs.Prelude.{List, drop, length, min, slice_index, take, ℕ, ◌%◌, ◌*◌, ◌+◌, ◌-◌, ◌/◌, ◌<◌, ◌≡◌, ◌≢◌, ◌≤◌}
+use Rattle.std.specs.Prelude.{List, Some, drop, length, min, slice_index, take, ℕ, ◌%◌, ◌*◌, ◌+◌, ◌-◌, ◌/◌, ◌<◌, ◌≡◌, ◌≢◌, ◌≤◌}
 use Rattle.std.specs.Int.{from_le_bytes, w64}
+use Rattle.gen1_machine.specs.declared.choice.Choice.{Choice}
+use Rattle.gen1_machine.specs.State.{State}
 use Rattle.gen1_layout.specs.Parts.{Parts, joined}
+use Rattle.gen1_engine.specs.declared.result.Refusal.{Refusal}
+use Rattle.gen1_engine.specs.Update.{AreOffered, Tests}
 use Rattle.gen1_outcomes.specs.declared.fault.OutcomesFault.{OutcomesFault}
 use Rattle.gen1_outcomes.specs.declared.fault.OutcomesFault.TheVariants as faults
 use Rattle.gen1_outcomes.specs.declared.merging.Place.{Place}
@@ -21,12 +25,23 @@ IsFull table = (slot : ℕ) → slot < length table → slice_index table slot �
 abbrev pub LacksPlaces : ℕ → ℕ → List ℕ → Type 0
 LacksPlaces count places table = (min places 4294967295 ≤ count) × HasFree table
 
--- The array that a fault names is too short: the table is full, or if it has a free place, the list is.
+-- The array that a fault names is too short: the table is full, or if it has a free place, the list is. It is no refusal.
 abbrev pub IsShort : OutcomesFault → ℕ → ℕ → List ℕ → Type 0
-IsShort (faults.Refused why) count places table = Unit {0}
+IsShort (faults.Refused why) count places table = ⊥
 IsShort faults.Places count places table = LacksPlaces count places table
 IsShort faults.Table count places table = IsFull table
 IsShort faults.Size count places table = Unit {0}
+
+-- A fault is a refusal.
+abbrev pub IsRefusal : OutcomesFault → Type 0
+IsRefusal fault = (why : Refusal) × (fault ≡ faults.Refused why)
+
+-- A list is refused as the update is. Where a list has another fault, both choices are offered.
+abbrev pub IsFaultOf : State → Choice → Choice → OutcomesFault → Type 0
+IsFaultOf s one two (faults.Refused why) = Tests s one two (Some why)
+IsFaultOf s one two faults.Places = AreOffered s one two
+IsFaultOf s one two faults.Table = AreOffered s one two
+IsFaultOf s one two faults.Size = AreOffered s one two
 
 -- A place of the list whose battle has the same bytes, or a free place of the table, if it has one.
 abbrev pub IsPlace : List Successor → List ℕ → Parts → Place → Type 0

@@ -9,7 +9,7 @@ ghost use Rattle.gen1_outcomes.specs.Complete.{Extends, IsExact, ListsEvery, Lis
 ghost use Rattle.gen1_outcomes.specs.declared.fault.OutcomesFault.TheVariants.{Size};
 ghost use Rattle.gen1_outcomes.specs.Listing.{AreThose, EachFollows, HasSome, StillFollow, sum_of};
 ghost use Rattle.gen1_outcomes.specs.Middles.{AreReached, IsAdded, IsReached};
-ghost use Rattle.gen1_outcomes.specs.Merging.{AreDistinct, IsIndexed, IsShort, LeavesOut, StayIndexed};
+ghost use Rattle.gen1_outcomes.specs.Merging.{AreDistinct, IsFaultOf, IsIndexed, IsRefusal, IsShort, LeavesOut, StayIndexed};
 ghost use Rattle.gen1_outcomes.specs.Shares.{CountsEach, EachIsProbable, StayProbable, TakesEach, taken};
 ghost use Rattle.gen1_outcomes.specs.Weights.{AddsPart, AddsPending, AddsUpdate, HasProbabilities, KeepsPending};
 
@@ -75,8 +75,10 @@ pub fn list_outcomes(
     ensures probable { IfOk result (λ o. EachIsProbable options.least o successors.new) }
     ensures left { IfOk result (λ o.
         o.left_out * 4294967296 ≤ o.ways * (options.least * o.whole)) }
-    ensures short { IfErr result (λ why.
-        IsShort why (taken table.new) (length successors.new) table.new) }
+    ensures refused { (s : State) → Stands battle.now s
+        → IfErr result (λ why. IsFaultOf s pair.0 pair.1 why) }
+    ensures short { IfErr result (λ why. IsRefusal why
+        ⊎ IsShort why (taken table.new) (length successors.new) table.new) }
 {
     match Ways::new(battle, pair.0, pair.1, options) {
         Err(why) => Err(OutcomesFault::Refused(why)),
