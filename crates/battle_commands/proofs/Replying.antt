@@ -1,25 +1,50 @@
 -- What is replied to words that ask for nothing to run, and that other words ask for a subcommand.
-use Rattle.std.proofs.Common.{Bool, List, None, Option, Result, Some, [], ap, arith, codes, false, inl, inr, length, refl, subst, sym, true, ℕ, ◌<◌, ◌∙◌, ◌∷◌, ◌≡◌}
-use Rattle.std.specs.Prelude.{Box, is_some, ◌≢◌, ◌⊎◌}
+use Rattle.std.proofs.Common.{List, None, refl, Option, Some, ap, option_map, true, ◌≡◌, ◌∙◌, Bool, Result, [], arith, codes, false, inl, inr, length, subst, sym, ℕ, ◌<◌, ◌∷◌}
+use Rattle.std.specs.Prelude.{Box, unwrap_or, is_some, ◌≢◌, ◌⊎◌}
+use Rattle.std.specs.Box.{box_value}
+use Rattle.clap.specs.Matches.{subcommand_name_of, first_value, found_of, has_subcommand}
+use Rattle.clap.specs.Simple.{HasMatchesOf, subcommand_rows, subcommand_rows_of, Shape, argument_words, built, names_of}
+use Rattle.clap.specs.Words.{App, Row, Text, is_simple, subcommand_of, fault_of, first_of, is_simple_and_free, rows_of}
+use Rattle.clap.specs.declared.parser.matches.ArgMatches.{ArgMatches}
+use Rattle.clap.specs.declared.parser.matches.ArgMatches.TheViews.{out-ArgMatches, out-SubCommand}
+use Rattle.clap.specs.declared.parser.matches.SubCommand.{SubCommand}
+use Rattle.battle_commands.specs.CommandLine.{AskFor, tool_app, faults, names_file}
 use Rattle.clap.proofs.WalkLemmas.{first_value-rows}
 use Rattle.clap.specs.Faults.{check_fault, defaults_fault, entered_fault, level_fault, settle_fault, walk_fault}
 use Rattle.clap.specs.Kinds.{IsAmong, Kinds, or_else}
-use Rattle.clap.specs.Matches.{first_value, found_of, has_subcommand}
-use Rattle.clap.specs.Simple.{HasMatchesOf, Shape, argument_words, built, names_of, subcommand_rows}
 use Rattle.clap.specs.Walk.{Held, Names, finished, nothing_held, settled, stop_after, walk, walk_from}
-use Rattle.clap.specs.Words.{App, Row, Text, fault_of, first_of, is_simple_and_free, rows_of, subcommand_of}
 use Rattle.clap.specs.declared.error.kind.ErrorKind.{ErrorKind}
 use Rattle.clap.specs.declared.error.kind.ErrorKind.TheVariants.{DisplayHelp, DisplayVersion, MissingSubcommand, OutOfMemory}
-use Rattle.clap.specs.declared.parser.matches.ArgMatches.{ArgMatches}
-use Rattle.clap.specs.declared.parser.matches.ArgMatches.TheViews.{out-ArgMatches}
-use Rattle.clap.specs.declared.parser.matches.SubCommand.{SubCommand}
 use Rattle.gen1_devices.specs.Output.{Sends}
 use Rattle.gen1_devices.specs.declared.io.DeviceFault.{DeviceFault}
 use Rattle.battle_commands.specs.Answers.{Sent, Tells}
-use Rattle.battle_commands.specs.CommandLine.{faults, names_file, tool_app}
 use Rattle.battle_commands.specs.Replies.{IsHelp, IsRefusal, IsReply, Replies, RepliesTo, Says, said_or_usage, usage}
 use Rattle.battle_commands.specs.Served.{IsUnheld}
-use Rattle.battle_commands.proofs.Asking.{rows_found}
+
+-- What words ask for, by what was found in them.
+
+name_in : {Z : Type 0} (o : Option (Box SubCommand Z)) (asked : Text × List Row) → subcommand_rows o ≡ Some asked
+    → option_map (λ b. (out-SubCommand (box_value b)).name.now) o ≡ Some asked.0
+name_in None asked e = ap (option_map (λ p. p.0)) e
+name_in (Some b) asked e = ap (option_map (λ p. p.0)) e
+
+pub name_asked : (m : ArgMatches) (asked : Text × List Row) → subcommand_rows_of m ≡ Some asked → subcommand_name_of m ≡ Some asked.0
+name_asked m asked e = name_in (out-ArgMatches m).subcommand asked e
+
+pub some_same : {A : Type 0} (x y : A) → Some x ≡ Some y → x ≡ y
+some_same x y e = ap (λ o. unwrap_or o x) e
+
+-- clap says of this command line what is found in words
+simple : is_simple tool_app ≡ true
+simple = refl
+
+pub rows_found : (app : App) (m : ArgMatches) (words : List Text) → app ≡ tool_app → HasMatchesOf app words m → subcommand_rows_of m ≡ subcommand_of tool_app words
+rows_found app m words app_is has = (has (ap is_simple app_is ∙ simple)).1 ∙ ap (λ (x : App). subcommand_of x words) app_is
+
+-- what accepted words ask for was found
+pub rows_asked : (app : App) (m : ArgMatches) (words : List Text) (asked : Text × List Row) → app ≡ tool_app → HasMatchesOf app words m → AskFor words asked
+    → subcommand_rows_of m ≡ Some asked
+rows_asked app m words asked app_is has a = rows_found app m words app_is has ∙ a.1
 
 -- the words are mistaken
 pub refuses : (kind : ErrorKind) (out err : Sent) (status : ℕ) → (kind ≢ DisplayHelp) × (kind ≢ DisplayVersion) → IsRefusal out err status → IsReply kind out err status

@@ -4,11 +4,9 @@ use Rattle.std.proofs.KnownBytes.{Appends-nil}
 use Rattle.std.specs.Prelude.{codes, is_ok, is_some}
 use Rattle.battle_commands.specs.Answers.{Answers, is_read_fault}
 use Rattle.battle_commands.specs.Calc.{PrintsDamages, damages_due}
-use Rattle.battle_commands.specs.Due.{log_due, run_due}
+use Rattle.battle_commands.specs.Due.{log_due, run_due, room_due}
 use Rattle.battle_commands.specs.Faults.{status_of}
-use Rattle.battle_commands.specs.Logs.{PrintsLog}
-use Rattle.battle_commands.specs.Rooms.{room_due}
-use Rattle.battle_commands.specs.Served.{Serves, given}
+use Rattle.battle_commands.specs.Served.{PrintsLog, Serves, given}
 use Rattle.battle_commands.specs.declared.fault.ToolFault.{ToolFault}
 use Rattle.battle_commands.specs.declared.fault.ToolFault.TheVariants.{Calc, Json, Log, Memory, Pair, Read, Team, TooLong, Write}
 use Rattle.battle_commands.proofs.Outcomes.{answers_unread, or_false, some_all}

@@ -12,9 +12,8 @@ use Rattle.gen1_devices.specs.Output.{AppendsFront}
 use Rattle.gen1_machine.specs.declared.side.Side.TheVariants.{One}
 use Rattle.gen1_hits.specs.Factors.{damages}
 use Rattle.gen1_hits.specs.UsualDamage.{has_usual_damage}
-use Rattle.battle_input.specs.Sheets.{input_of}
+use Rattle.battle_input.specs.Sheets.{input_of, calc_sheet_of}
 use Rattle.battle_commands.specs.Asked.{input_limit, unless}
-use Rattle.battle_input.specs.CalcSheets.{calc_sheet_of}
 use Rattle.battle_input.specs.declared.calc_sheet.CalcSheet.{CalcSheet}
 use Rattle.battle_input.specs.declared.fault.JsonFault.{JsonFault}
 use Rattle.battle_commands.specs.declared.fault.ToolFault.{ToolFault}

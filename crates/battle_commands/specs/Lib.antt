@@ -4,10 +4,6 @@ pub mod Asked
 pub mod Due
 pub mod Answers
 pub mod Faults
-pub mod Explanations
-pub mod Logs
-pub mod Rooms
 pub mod Served
 pub mod Replies
 pub mod CommandLine
-pub mod Help

@@ -1,17 +1,37 @@
 -- What the program has written and returns for a subcommand and its input (docs/PROGRAM.md, "The program battle_tool").
-use Rattle.std.specs.Prelude.{Bool, Err, IfSome, List, None, Ok, Option, Result, Some, codes, false, true, ℕ, ◌≡◌, ◌⊎◌}
+use Rattle.std.specs.Prelude.{◌≡◌, ℕ, ◌<◌, ◌≤◌, List, [], length, Option, Result, Ok, Err, Bool, IfSome, None, Some, codes, false, true, ◌⊎◌}
+use Rattle.std.specs.Io.KnownBytes.{Appends}
+use Rattle.gen1_machine.specs.Lines.{lines}
+use Rattle.gen1_devices.specs.Output.{AppendsFront}
+use Rattle.gen1_machine.specs.declared.event.Event.{Event}
+use Rattle.gen1_events.specs.Faults.{number_of}
+use Rattle.gen1_events.specs.Splits.{IsReading}
+use Rattle.gen1_events.specs.declared.fault.LogFault.{LogFault}
+use Rattle.gen1_printer.specs.Prints.{IsFaulty}
+use Rattle.battle_commands.specs.Asked.{input_limit}
+use Rattle.battle_commands.specs.declared.fault.ToolFault.{ToolFault}
+use Rattle.battle_commands.specs.declared.fault.ToolFault.TheVariants.{TooLong, Log, Read, Write, Memory}
 use Rattle.clap.specs.Matches.{first_value, found_of, one_text}
 use Rattle.clap.specs.Walk.{Row, rows_of}
 use Rattle.clap.specs.declared.parser.matches.ArgMatches.{ArgMatches}
 use Rattle.battle_commands.specs.Answers.{Answers, IsQuiet, Sent, Tells}
 use Rattle.battle_commands.specs.Calc.{PrintsDamages, damages_due}
-use Rattle.battle_commands.specs.Due.{log_due, run_due}
-use Rattle.battle_commands.specs.Explanations.{told_of}
-use Rattle.battle_commands.specs.Faults.{error_line, status_of}
-use Rattle.battle_commands.specs.Logs.{PrintsLog}
-use Rattle.battle_commands.specs.Rooms.{room_due}
-use Rattle.battle_commands.specs.declared.fault.ToolFault.{ToolFault}
-use Rattle.battle_commands.specs.declared.fault.ToolFault.TheVariants.{Memory}
+use Rattle.battle_commands.specs.Due.{log_due, run_due, room_due}
+use Rattle.battle_commands.specs.Faults.{told_of, error_line, status_of}
+
+-- What `print` has written and returns for the bytes of a log (docs/PROGRAM.md, "print").
+
+-- The lines of the log's events are written, or a prefix of them if a write fails. Nothing is written if the log has an error, the
+-- input is too long, a read fails, or memory runs out.
+abbrev pub PrintsLog : {T : Type 0} → List ℕ → Option (List ℕ) → Option (List ℕ) → Result T ToolFault → Type 0
+PrintsLog log old new (Ok done) = (events : List Event) × (length log ≤ input_limit) × IsReading log events × Appends old new (lines events)
+PrintsLog log old new (Err Write) = (events : List Event) × (length log ≤ input_limit) × IsReading log events × AppendsFront old new (lines events)
+PrintsLog log old new (Err (Log number)) =
+    (fault : LogFault) × (length log ≤ input_limit) × IsFaulty log fault × (number ≡ number_of fault) × Appends old new []
+PrintsLog log old new (Err TooLong) = (input_limit < length log) × Appends old new []
+PrintsLog log old new (Err Read) = Appends old new []
+PrintsLog log old new (Err Memory) = Appends old new []
+PrintsLog log old new (Err fault) = ⊥
 
 -- the bytes of a subcommand's input, if they are known: those of the FILE that is named, or else those of standard input
 abbrev pub given : (List ℕ → Option (List ℕ)) → Option (List ℕ) → Option (List ℕ) → Option (List ℕ)

@@ -2,11 +2,9 @@
 ghost use Rattle.std.specs.Prelude.{◌+◌, ◌≡◌, ◌≤◌, ◌||◌, length, IfSome};
 ghost use Rattle.gen1_devices.specs.Input.{TakesAtMost};
 ghost use Rattle.battle_commands.specs.Answers.{is_read_fault, is_write_fault};
-ghost use Rattle.battle_input.specs.Sheets.{input_of};
+ghost use Rattle.battle_input.specs.Sheets.{Gives, calc_sheet_of, input_of};
 ghost use Rattle.battle_commands.specs.Calc.{PrintsDamages, damages_due};
-ghost use Rattle.battle_input.specs.CalcSheets.{calc_sheet_of};
 ghost use Rattle.battle_commands.specs.Asked.{Finds};
-ghost use Rattle.battle_input.specs.SheetViews.{Gives};
 
 use crate::damage::damages;
 use crate::fault::ToolFault;

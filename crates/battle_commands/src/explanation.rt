@@ -1,6 +1,6 @@
 //! What is written after the line of an error, if an explanation is asked for (docs/PROGRAM.md, "Explanations").
 ghost use Rattle.std.specs.Prelude.{codes, length, ◌++◌, ◌≡◌, ◌≤◌};
-ghost use Rattle.battle_commands.specs.Explanations.{explanation, log_words, misfit_words, pair_words, refused_words, team_words, text_words};
+ghost use Rattle.battle_commands.specs.Faults.{explanation, log_words, misfit_words, pair_words, refused_words, team_words, text_words};
 
 use crate::fault::ToolFault;
 use arrayvec::ArrayString;

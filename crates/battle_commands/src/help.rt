@@ -1,5 +1,5 @@
 //! The help of each subcommand (docs/PROGRAM.md, "The program battle_tool").
-ghost use Rattle.battle_commands.specs.Help.{Describes};
+ghost use Rattle.battle_commands.specs.CommandLine.{Describes};
 
 const RUN_ABOUT: &str = "Runs a battle and prints its lines";
 

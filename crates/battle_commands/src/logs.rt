@@ -2,7 +2,7 @@
 ghost use Rattle.std.specs.Prelude.{◌+◌, ◌≡◌, ◌||◌, IfSome};
 ghost use Rattle.gen1_devices.specs.Input.{TakesAtMost};
 ghost use Rattle.battle_commands.specs.Answers.{is_read_fault, is_write_fault};
-ghost use Rattle.battle_commands.specs.Logs.{PrintsLog};
+ghost use Rattle.battle_commands.specs.Served.{PrintsLog};
 
 use crate::fault::ToolFault;
 use crate::input::{INPUT_LIMIT, read_input};

@@ -1,4 +1,3 @@
 -- Reading JSON values.
 pub mod Reading
-pub mod JsonLemmas
 pub mod Stops

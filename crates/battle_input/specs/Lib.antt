@@ -4,7 +4,3 @@ pub mod Misfits
 pub mod NoJson
 -- What a JSON value asks for.
 pub mod Sheets
--- A calculation that is asked for.
-pub mod CalcSheets
--- A request as the code holds it.
-pub mod SheetViews

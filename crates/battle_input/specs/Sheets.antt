@@ -1,11 +1,11 @@
 -- What a JSON value asks for: a battle (a seed, two lists of members, rules and a turn limit), and what is done in it (pairs of
 -- choices, or submissions to a room); or the first place at which it is not as expected (docs/PROGRAM.md, "Input", "JSON, to the
 -- letter", "Explanations").
-use Rattle.std.specs.Prelude.{Err, List, None, Ok, Option, Result, Some, [], if◌then◌else◌, nat_le, nat_lt, ok_or, option_and_then, ℕ, ◌&&◌, ◌+◌, ◌==◌, ◌∷◌}
+use Rattle.std.specs.Prelude.{Err, List, None, Ok, Option, Result, Some, [], if◌then◌else◌, nat_le, nat_lt, ok_or, option_and_then, ℕ, ◌&&◌, ◌+◌, ◌==◌, ◌∷◌, ◌≡◌, Bool}
 use Rattle.std.specs.Str.{is_utf8}
 use Rattle.serde_json.specs.Data.{Data, Items, no_items, item}
 use Rattle.serde_json.specs.Read.{read}
-use Rattle.serde_json.specs.Find.{as_array, as_number, as_str, as_u64, get}
+use Rattle.serde_json.specs.Find.{as_array, as_number, as_str, as_u64, get, as_bool}
 use Rattle.gen1_tables.specs.Names.{species_named, move_named}
 use Rattle.gen1_stats.specs.Sheets.{Sheet as MemberSheet}
 use Rattle.gen1_machine.specs.declared.side.Side.{Side}
@@ -16,11 +16,16 @@ use Rattle.battle_input.specs.NoJson.{no_json}
 use Rattle.battle_input.specs.declared.fault.JsonFault.{JsonFault}
 use Rattle.battle_input.specs.declared.fault.JsonFault.TheVariants.{Value}
 use Rattle.battle_input.specs.declared.misfit.Expected.{Expected}
-use Rattle.battle_input.specs.declared.misfit.Expected.TheVariants as expectations
 use Rattle.battle_input.specs.declared.misfit.Key.{Key}
-use Rattle.battle_input.specs.declared.misfit.Key.TheVariants as keys
 use Rattle.battle_input.specs.declared.misfit.Misfit.{Misfit}
 use Rattle.battle_input.specs.declared.misfit.Step.TheVariants.{At, Of}
+use Rattle.battle_input.specs.declared.fault.SheetFault.{SheetFault}
+use Rattle.battle_input.specs.declared.fault.SheetFault.TheVariants.{Json, Memory}
+use Rattle.battle_input.specs.declared.sheet.BattleSheet.{BattleSheet}
+use Rattle.battle_input.specs.declared.sheet.Sheet.{Sheet}
+use Rattle.battle_input.specs.declared.calc_sheet.CalcSheet.{CalcSheet}
+use Rattle.battle_input.specs.declared.misfit.Expected.TheVariants as expectations
+use Rattle.battle_input.specs.declared.misfit.Key.TheVariants as keys
 
 pub record BattleData : Type 0 where
   pub seed : List ℕ
@@ -157,3 +162,31 @@ of_value (Err m) = Err (Value m)
 -- what a JSON input asks for, by its value
 abbrev pub input_of : {A : Type 0} → (Data → Result A Misfit) → List ℕ → Result A JsonFault
 input_of f bytes = and_then (λ d. of_value (f d)) (json_of bytes)
+
+-- A request as the code holds it (docs/PROGRAM.md, "Input").
+
+abbrev pub battle_view : BattleSheet → BattleData
+battle_view s = record { seed = s.seed; one = s.one.items; two = s.two.items; rules = s.rules; limit = s.limit }
+
+-- with a list next to it
+abbrev pub sheet_view : {A : Type 0} → Sheet A → BattleData × List A
+sheet_view s = (battle_view s.battle, s.items.items)
+
+-- What a function returned, seen through `view`, is this, unless memory ran out.
+abbrev pub Gives : {X Y : Type 0} → (X → Y) → Result X SheetFault → Result Y JsonFault → Type 0
+Gives view (Ok x) r = r ≡ Ok (view x)
+Gives view (Err (Json fault)) r = r ≡ Err fault
+Gives view (Err Memory) r = Unit {0}
+
+-- What a JSON value asks `calc` for: two members, a move, and whether the hit is critical (docs/PROGRAM.md, "calc", "JSON, to
+-- the letter").
+
+abbrev pub truth_of : Data → Result Bool Misfit
+truth_of d = or_expected expectations.Truth (as_bool d)
+
+abbrev pub calc_sheet_of : Data → Result CalcSheet Misfit
+calc_sheet_of d =
+    and_then (λ attacker. and_then (λ defender. and_then (λ id. mapped
+    (λ critical. record { attacker = attacker; defender = defender; id = id; critical = critical })
+    (field_of keys.Critical truth_of d)) (field_of keys.Move move_name_of d))
+    (field_of keys.Defender member_of d)) (field_of keys.Attacker member_of d)

@@ -1,7 +1,7 @@
 //! What an input asks `calc` for, as JSON (docs/PROGRAM.md, "calc", "JSON, to the letter").
 ghost use Rattle.std.specs.Prelude.{◌≡◌};
 ghost use Rattle.serde_json.specs.View.{view};
-ghost use Rattle.battle_input.specs.CalcSheets.{calc_sheet_of, truth_of};
+ghost use Rattle.battle_input.specs.Sheets.{calc_sheet_of, truth_of};
 ghost use Rattle.battle_input.specs.Misfits.{IsShort};
 
 use crate::misfit::{Expected, Key, Misfit, Step, behind};

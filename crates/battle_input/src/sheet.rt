@@ -4,8 +4,7 @@ ghost use Rattle.serde_json.specs.Data.{Data};
 ghost use Rattle.serde_json.specs.Find.{get};
 ghost use Rattle.serde_json.specs.View.{view};
 ghost use Rattle.battle_input.specs.Misfits.{IsShort, mapped, name_of};
-ghost use Rattle.battle_input.specs.Sheets.{battle_of, byte_of, field_of, input_of, json_of, limit_numbered, limit_of, list_of, long_of, member_of, move_name_of, move_of, moves_of, numbers_of, of_value, or_expected, pair_of, rules_numbered, rules_of, sheet_of, side_of, species_of, submission_of, word_of};
-ghost use Rattle.battle_input.specs.SheetViews.{Gives, battle_view, sheet_view};
+ghost use Rattle.battle_input.specs.Sheets.{Gives, battle_of, battle_view, byte_of, field_of, input_of, json_of, limit_numbered, limit_of, list_of, long_of, member_of, move_name_of, move_of, moves_of, numbers_of, of_value, or_expected, pair_of, rules_numbered, rules_of, sheet_of, sheet_view, side_of, species_of, submission_of, word_of};
 ghost use Rattle.battle_input.specs.declared.misfit.Expected.TheVariants as expectations;
 ghost use Rattle.battle_input.specs.declared.misfit.Key.TheVariants as keys;
 ghost use Rattle.battle_input.specs.declared.misfit.Misfit.{Misfit as AMisfit};
@@ -38,7 +37,7 @@ pub struct Sheet<T> {
 }
 
 /// The JSON value of an input; `Text` if it is not UTF-8, or not JSON.
-#[tactic(auto, using(crate::proofs::JsonLemmas::json_some, crate::proofs::JsonLemmas::json_none))]
+#[tactic(auto, using(crate::proofs::Reading::json_some, crate::proofs::Reading::json_none))]
 pub fn value_in(alloc: Global, input: &[u8]) -> Result<Value, SheetFault>
     ensures { Gives view result (json_of input.now) }
 {

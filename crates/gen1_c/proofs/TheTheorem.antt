@@ -30,9 +30,8 @@ use Rattle.gen1_engine.specs.Replay.{offers_if, or_pass, step_by_bytes}
 use Rattle.gen1_engine.proofs.Bytes.{step_of_choices}
 use Rattle.gen1_engine.proofs.Played.{accepted_offered}
 use Rattle.gen1_spectator.specs.Watching.{AreRead, joined}
-use Rattle.gen1_c.specs.Battle.{Loads, LoadsAs, teams_fault}
+use Rattle.gen1_c.specs.Battle.{Loads, LoadsAs, teams_fault, Held, Logs, Offers, UpdatesAs, result_byte}
 use Rattle.gen1_c.specs.Fronts.{over_front}
-use Rattle.gen1_c.specs.Update.{Held, Logs, Offers, UpdatesAs, result_byte}
 use Rattle.gen1_c.specs.TheTheorem.{IsLogged, after, called, calls_in, code_of, log_in, log_of, logs_in, stepped}
 use Rattle.gen1_c.specs.declared.the_theorem.Update.{Update}
 

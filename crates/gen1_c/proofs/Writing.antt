@@ -1,16 +1,162 @@
 -- Texts that are expected, and so are written.
-use Rattle.std.proofs.Common.{Bool, Err, List, None, Ok, Option, Result, Some, [], ap, append_assoc, arith, codes, drop, false, if◌then◌else◌, length, nat_le, nat_lt, ok_or, option_map, refl, set, subst, sym, take, true, ℕ, ◌&&◌, ◌++◌, ◌+◌, ◌<◌, ◌≡◌, ◌∙◌, ◌∷◌}
+use Rattle.std.proofs.Common.{Bool, List, [], ap, append-nil, append_assoc, arith, drop, false, get_or, inl, inr, length, length-append, map, refl, set, subst, sym, true, ℕ, ◌%◌, ◌++◌, ◌+◌, ◌-◌, ◌/◌, ◌<◌, ◌==◌, ◌≡◌, ◌≤◌, ◌⊎◌, ◌∙◌, ◌∷◌, Err, None, Ok, Option, Result, Some, codes, if◌then◌else◌, nat_le, nat_lt, ok_or, option_map, take, ◌&&◌}
+use Rattle.std.proofs.lemmas.List.{drop-drop, drop-set-lt, drop_more, get_or-map, length-map, map-append, drop_at, take_at}
+use Rattle.std.proofs.Math.Seq.{set-append_seam}
+use Rattle.gen1_machine.specs.declared.choice.Choice.{Choice}
+use Rattle.gen1_machine.specs.Choices.{byte_of_choice}
+use Rattle.gen1_offers.specs.OfferedMask.{all_choices, chosen_by}
+use Rattle.gen1_offers.proofs.MaskChoices.{chosen-even, chosen-odd}
+use Rattle.gen1_offers.proofs.Digits.{equal_number}
+use Rattle.gen1_offers.proofs.OfferedSet.{other_number}
+use Rattle.gen1_c.specs.Battle.{IsWritten, Offers, move_words, switch_words}
 use Rattle.std.proofs.lemmas.Bool.Decides.{nat_tests}
-use Rattle.std.proofs.lemmas.List.{drop_at, take_at}
 use Rattle.std.specs.List.{slice_get}
 use Rattle.gen1_tables.specs.Names.{move_name, species_name}
 use Rattle.gen1_machine.specs.declared.side.Side.{Side}
 use Rattle.gen1_machine.specs.State.{Field, known_in, member_at, member_in, party}
-use Rattle.gen1_c.specs.Choices.{move_words, switch_words}
-use Rattle.gen1_c.proofs.Hits.{not_zero}
-use Rattle.gen1_c.proofs.WrittenChoices.{front_more}
+use Rattle.gen1_c.proofs.OddsDue.{not_zero}
 use Rattle.gen1_c.specs.Fronts.{Room, Writes, WritesIf, ended, over_front}
 use Rattle.gen1_c.specs.Names.{Tells, numbered}
+use Rattle.gen1_machine.specs.declared.choice.Choice.TheVariants as choices
+
+-- Choices that are written one after the other to the beginning of a caller's nine bytes.
+
+-- one more byte
+pub front_more : (done base now : List ℕ) (count byte : ℕ) → IsWritten done base now count → length done < length base
+    → IsWritten (done ++ (byte ∷ [])) base (set now count byte) (count + 1)
+front_more done base now count byte is inside =
+    let long : length (done ++ (byte ∷ [])) ≡ length done + 1 = length-append done (byte ∷ []) in
+    let split = drop_more base (length done) 0 inside in (
+      omega (arith, long, is.0),
+      ap (λ (l : List ℕ). set l count byte) is.1 ∙ ap (λ (n : ℕ). set (done ++ drop (length done) base) n byte) is.0
+          ∙ ap (λ (l : List ℕ). set (done ++ l) (length done) byte) split
+          ∙ set-append_seam done (get_or base (length done) 0) (drop (length done + 1) base) byte
+          ∙ sym (append_assoc done (byte ∷ []) (drop (length done + 1) base))
+          ∙ ap (λ (n : ℕ). (done ++ (byte ∷ [])) ++ drop n base) (sym long),
+    )
+
+-- no more bytes
+pub front_same : (done base now : List ℕ) (count : ℕ) → IsWritten done base now count → IsWritten (done ++ []) base now count
+front_same done base now count is = subst (λ (l : List ℕ). IsWritten l base now count) (sym (append-nil done)) is
+
+-- past a count that grows everything is as it was
+pub rest_more : (old now new : List ℕ) (count next : ℕ) → count ≤ next → drop count now ≡ drop count old → drop next new ≡ drop next now
+    → drop next new ≡ drop next old
+rest_more old now new count next grows before step =
+    let more : next ≡ count + (next - count) = omega (arith, grows) in
+    step ∙ ap (λ (n : ℕ). drop n now) more ∙ sym (drop-drop (next - count) count now) ∙ ap (drop (next - count)) before
+    ∙ drop-drop (next - count) count old ∙ ap (λ (n : ℕ). drop n old) (sym more)
+
+pub rest_four : (base : List ℕ) (next : ℕ) → 4 ≤ next → drop next (set (set (set (set base 0 0x11) 1 0x12) 2 0x13) 3 0x14) ≡ drop next base
+rest_four base next past =
+    drop-set-lt next (set (set (set base 0 0x11) 1 0x12) 2 0x13) 3 0x14 (omega (arith, past))
+    ∙ drop-set-lt next (set (set base 0 0x11) 1 0x12) 2 0x13 (omega (arith, past))
+    ∙ drop-set-lt next (set base 0 0x11) 1 0x12 (omega (arith, past)) ∙ drop-set-lt next base 0 0x11 (omega (arith, past))
+
+abbrev pub twelve_bytes : List ℕ
+twelve_bytes = 0x00 ∷ 0x10 ∷ 0x11 ∷ 0x12 ∷ 0x13 ∷ 0x14 ∷ 0x21 ∷ 0x22 ∷ 0x23 ∷ 0x24 ∷ 0x25 ∷ 0x26 ∷ []
+
+byte_at : (digit : ℕ) → digit < 12 → get_or twelve_bytes digit 0 ≡ byte_of_choice (get_or all_choices digit choices.Pass)
+byte_at digit inside = get_or-map byte_of_choice all_choices digit choices.Pass 0 inside
+
+-- what is written while the digits from one on are still to come: more choices, after those that are done
+pub record SoFar (base : List ℕ) (done : List Choice) (mask from rest digit : ℕ) (now : List ℕ) (count : ℕ) : Type 0 where
+  pub more : List Choice
+  pub splits : chosen_by mask (drop from all_choices) ≡ more ++ chosen_by rest (drop digit all_choices)
+  pub written : IsWritten (map byte_of_choice (done ++ more)) base now count
+
+pub so_far-none : (base : List ℕ) (done : List Choice) (mask from : ℕ) (now : List ℕ) (count : ℕ) → IsWritten (map byte_of_choice done) base now count
+    → SoFar base done mask from mask from now count
+so_far-none base done mask from now count is = record {
+  more = [];
+  splits = refl;
+  written = subst (λ (l : List Choice). IsWritten (map byte_of_choice l) base now count) (sym (append-nil done)) is;
+}
+
+abbrev one_byte : Bool → ℕ → List ℕ
+one_byte holds byte = if holds then byte ∷ [] else []
+
+parity : (m : ℕ) → (m % 2 ≡ 1) ⊎ (m % 2 ≡ 0)
+parity m = grind arith
+
+-- one more digit
+pub so_far-more : (base : List ℕ) (done : List Choice) (mask from rest digit : ℕ) (now new : List ℕ) (count next : ℕ)
+    → SoFar base done mask from rest digit now count → digit < 12 → length base ≡ 9 → length (done ++ chosen_by mask (drop from all_choices)) ≤ 9
+    → ((base' done' : List ℕ) → IsWritten done' base' now count → length base' ≡ 9 → length (done' ++ one_byte (rest % 2 == 1) (get_or twelve_bytes digit 0)) ≤ 9
+    → IsWritten (done' ++ one_byte (rest % 2 == 1) (get_or twelve_bytes digit 0)) base' new next)
+    → SoFar base done mask from (rest / 2) (digit + 1) new next
+so_far-more base done mask from rest digit now new count next so inside nine few put = by (parity rest)
+  where
+    head : drop digit all_choices ≡ get_or all_choices digit choices.Pass ∷ drop (digit + 1) all_choices
+    head = drop_more all_choices digit choices.Pass inside
+
+    by : (rest % 2 ≡ 1) ⊎ (rest % 2 ≡ 0) → SoFar base done mask from (rest / 2) (digit + 1) new next
+    by (inl odd) =
+        let choice : Choice = get_or all_choices digit choices.Pass in
+        let left = ap (chosen_by rest) head ∙ chosen-odd rest choice (drop (digit + 1) all_choices) odd in
+        let splits = so.splits ∙ ap (λ (l : List Choice). so.more ++ l) left ∙ sym (append_assoc so.more (choice ∷ []) (chosen_by (rest / 2) (drop (digit + 1) all_choices))) in
+        let bytes = map byte_of_choice (done ++ so.more) in
+        let long : length (done ++ chosen_by mask (drop from all_choices)) ≡ length done + (length so.more + 1 + length (chosen_by (rest / 2) (drop (digit + 1) all_choices))) =
+        length-append done (chosen_by mask (drop from all_choices)) ∙ (let e = ap length splits in
+        omega (arith, e, length-append (so.more ++ (choice ∷ [])) (chosen_by (rest / 2) (drop (digit + 1) all_choices)), length-append so.more (choice ∷ []))) in
+        let small : length (bytes ++ (get_or twelve_bytes digit 0 ∷ [])) ≤ 9 =
+        omega (arith, few, long, length-append bytes (get_or twelve_bytes digit 0 ∷ []), length-map (done ++ so.more) byte_of_choice, length-append done so.more) in
+        let same : (rest % 2 == 1) ≡ true = equal_number (rest % 2) 1 odd in
+        let after : IsWritten (bytes ++ (get_or twelve_bytes digit 0 ∷ [])) base new next =
+        (rw same at (put base bytes so.written nine)) small in
+        let joined : bytes ++ (get_or twelve_bytes digit 0 ∷ []) ≡ map byte_of_choice (done ++ (so.more ++ (choice ∷ []))) =
+        ap (λ (n : ℕ). bytes ++ (n ∷ [])) (byte_at digit inside) ∙ sym (map-append byte_of_choice (done ++ so.more) (choice ∷ []))
+        ∙ ap (map byte_of_choice) (append_assoc done so.more (choice ∷ [])) in
+        record { more = so.more ++ (choice ∷ []); splits = splits; written = subst (λ (l : List ℕ). IsWritten l base new next) joined after }
+    by (inr even) =
+        let choice : Choice = get_or all_choices digit choices.Pass in
+        let left = ap (chosen_by rest) head ∙ chosen-even rest choice (drop (digit + 1) all_choices) even in
+        let splits = so.splits ∙ ap (λ (l : List Choice). so.more ++ l) left in
+        let bytes = map byte_of_choice (done ++ so.more) in
+        let long : length (done ++ chosen_by mask (drop from all_choices)) ≡ length done + (length so.more + length (chosen_by (rest / 2) (drop (digit + 1) all_choices))) =
+        length-append done (chosen_by mask (drop from all_choices)) ∙ (let e = ap length splits in
+        omega (arith, e, length-append so.more (chosen_by (rest / 2) (drop (digit + 1) all_choices)))) in
+        let small : length (bytes ++ []) ≤ 9 = omega (arith, few, long, length-append {A = ℕ} bytes [], length-map (done ++ so.more) byte_of_choice, length-append done so.more) in
+        let other : (rest % 2 == 1) ≡ false = other_number (rest % 2) 1 (λ e. omega (arith, e, even)) in
+        let after : IsWritten (bytes ++ []) base new next = (rw other at (put base bytes so.written nine)) small in
+        record { more = so.more; splits = splits; written = subst (λ (l : List ℕ). IsWritten l base new next) (append-nil bytes) after }
+
+-- all digits
+pub so_far-all : (base : List ℕ) (done : List Choice) (mask from rest digit : ℕ) (now : List ℕ) (count : ℕ) → SoFar base done mask from rest digit now count → digit ≡ 12
+    → IsWritten (map byte_of_choice (done ++ chosen_by mask (drop from all_choices))) base now count
+so_far-all base done mask from rest digit now count so at =
+    let none : chosen_by rest (drop digit all_choices) ≡ [] = ap (λ (n : ℕ). chosen_by rest (drop n all_choices)) at in
+    let all : chosen_by mask (drop from all_choices) ≡ so.more = so.splits ∙ ap (λ (l : List Choice). so.more ++ l) none ∙ append-nil so.more in
+    subst (λ (l : List Choice). IsWritten (map byte_of_choice (done ++ l)) base now count) (sym all) so.written
+
+-- a mask of four moves, and no struggle
+
+abbrev pub four : List Choice
+four = choices.Move 1 ∷ choices.Move 2 ∷ choices.Move 3 ∷ choices.Move 4 ∷ []
+
+pub four_first : (mask : ℕ) → mask % 64 ≡ 0x3c → chosen_by mask all_choices ≡ four ++ chosen_by (mask / 64) (drop 6 all_choices)
+four_first mask is =
+    let m1 = mask / 2 in let m2 = m1 / 2 in let m3 = m2 / 2 in let m4 = m3 / 2 in let m5 = m4 / 2 in
+    let whole : m5 / 2 ≡ mask / 64 = omega arith in
+    chosen-even mask choices.Pass (drop 1 all_choices) (omega (arith, is))
+    ∙ chosen-even m1 (choices.Move 0) (drop 2 all_choices) (omega (arith, is))
+    ∙ chosen-odd m2 (choices.Move 1) (drop 3 all_choices) (omega (arith, is))
+    ∙ ap (λ (l : List Choice). choices.Move 1 ∷ l) (chosen-odd m3 (choices.Move 2) (drop 4 all_choices) (omega (arith, is))
+    ∙ ap (λ (l : List Choice). choices.Move 2 ∷ l) (chosen-odd m4 (choices.Move 3) (drop 5 all_choices) (omega (arith, is))
+    ∙ ap (λ (l : List Choice). choices.Move 3 ∷ l) (chosen-odd m5 (choices.Move 4) (drop 6 all_choices) (omega (arith, is))
+    ∙ ap (λ (n : ℕ). choices.Move 4 ∷ chosen_by n (drop 6 all_choices)) whole)))
+
+-- four bytes at the beginning of nine
+pub four_written : (base : List ℕ) → length base ≡ 9
+    → IsWritten (map byte_of_choice four) base (set (set (set (set base 0 0x11) 1 0x12) 2 0x13) 3 0x14) 4
+four_written [] nine = absurd (omega arith)
+four_written (a ∷ []) nine = absurd (omega arith)
+four_written (a ∷ b ∷ []) nine = absurd (omega arith)
+four_written (a ∷ b ∷ c ∷ []) nine = absurd (omega arith)
+four_written (a ∷ b ∷ c ∷ d ∷ base) nine = (refl, refl)
+
+pub offers_of : (list : List Choice) (old new : List ℕ) (count : ℕ) → IsWritten (map byte_of_choice list) old new count → Offers list old new count
+offers_of list old new count is = (is.0 ∙ length-map list byte_of_choice, is.1)
 
 -- the expected text is written, or the code says why not
 pub written : {due : Result (List ℕ) ℕ} {text : List ℕ} (old new : Room) (code : ℕ) → due ≡ Ok text

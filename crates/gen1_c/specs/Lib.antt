@@ -1,54 +1,26 @@
 -- What is written to the beginning of a caller's memory.
 pub mod Fronts
--- Codes.
+-- Codes, and their words.
 pub mod Codes
--- Teams as plain structs.
+-- Teams as plain structs, read from text, and random ones.
 pub mod Teams
--- A guess of what a player can't know.
-pub mod Guesses
--- How a battle begins.
+-- How a battle begins, what updates return, the bytes of choices, and the field of a state that is wrong.
 pub mod Battle
--- What updates return, and what is offered.
-pub mod Update
--- Events as plain structs.
+-- Events as plain structs and as bytes, and the lines of a log.
 pub mod Events
--- Events and lines of a log.
-pub mod Logs
--- The bytes of an event.
-pub mod EventBytes
--- The damage of a hit.
-pub mod Damage
--- Masks, and many battles.
+-- Masks, and many battles: updates, random steps and playouts.
 pub mod Batches
--- The battles that an update can lead to.
+-- The battles that an update can lead to, and its ways one by one.
 pub mod Outcomes
--- Its ways one by one.
-pub mod Walks
--- How playouts end.
-pub mod Playouts
--- Random steps of many battles.
-pub mod RandomSteps
--- Teams read from text.
-pub mod TeamText
--- Random teams, and the sample teams.
-pub mod RandomTeams
--- Names, rows of the tables, and a member's stats.
+-- Names, rows of the tables, the numbers of effects, and a member's stats.
 pub mod Names
--- The numbers of effects.
-pub mod Effects
--- Codes in words.
-pub mod Texts
--- The field of a state that is wrong.
-pub mod View
--- The bytes of choices.
-pub mod Choices
 -- What a room replies.
 pub mod Rooms
 -- What a host takes, and what it replies.
 pub mod Hosts
--- The odds of a move.
+-- The odds of a move, and the damage of a hit.
 pub mod Odds
--- What a player knows, and what is reported to it.
+-- What a player knows, what is reported to it, and a guess of what it can't know.
 pub mod Players
 -- All calls that play a battle.
 pub mod TheTheorem

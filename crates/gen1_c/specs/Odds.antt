@@ -1,5 +1,5 @@
 -- The odds of a use of a move and its chance to knock out, and why there are none (include/gen1.h, "calculating").
-use Rattle.std.specs.Prelude.{Err, List, Ok, Result, [], if◌then◌else◌, nat_le, replicate, ℕ, ◌&&◌, ◌+◌, ◌==◌, ◌≡◌, ◌∷◌}
+use Rattle.std.specs.Prelude.{Err, List, Ok, Result, [], if◌then◌else◌, nat_le, replicate, ℕ, ◌&&◌, ◌+◌, ◌==◌, ◌≡◌, ◌∷◌, Bool, ok_or}
 use Rattle.gen1_stats.specs.Members.{Member}
 use Rattle.gen1_stats.specs.Teams.{team_refusal}
 use Rattle.gen1_machine.specs.declared.side.Side.{Side}
@@ -19,6 +19,9 @@ use Rattle.gen1_odds.specs.Odds.{drained, odds_in, recoil, takes_hit_test}
 use Rattle.gen1_c.specs.Battle.{teams_fault}
 use Rattle.gen1_c.specs.Teams.{fault_of_any, member_fault, sheet_of}
 use Rattle.gen1_c.specs.declared.teams.MemberForm.{MemberForm}
+use Rattle.gen1_machine.specs.Damage.{numbers_in}
+use Rattle.gen1_hits.specs.Factors.{damages}
+use Rattle.gen1_hits.specs.UsualDamage.{has_usual_damage}
 
 -- the side and the move of a use; or a code: not a move, no active member yet
 unfoldable pub use_due : Side → ℕ → Field → Result (Side × ℕ) ℕ
@@ -75,3 +78,18 @@ between_fault user foe number = if nat_le 1 number && nat_le number 165 then tea
 -- the odds of a state, under its own rules
 abbrev pub odds_of_state : Side → ℕ → State → Odds
 odds_of_state side id s = odds_in s.terms.rules side (move_at id) s.field
+
+-- The damage of a hit in the present state of a battle, and why there is none (include/gen1.h, "calculating").
+
+-- the damage at each factor from 217 to 255; or a code: not a move, no usual damage, no active member yet, a divisor of 0
+unfoldable pub damages_due : Side → ℕ → Bool → Field → Result (List ℕ) ℕ
+damages_due side id critical f =
+    if nat_le 1 id && nat_le id 165
+    then (if has_usual_damage (move_at id)
+    then (if f.turn == 0 then Err 50 else ok_or (damages (numbers_in side (move_at id) critical f)) 49)
+    else Err 48)
+    else Err 11
+
+abbrev pub TellsDamages : Result (List ℕ) ℕ → List ℕ → List ℕ → ℕ → Type 0
+TellsDamages (Ok list) old new code = (code ≡ 0) × (new ≡ list)
+TellsDamages (Err why) old new code = (code ≡ why) × (new ≡ old)

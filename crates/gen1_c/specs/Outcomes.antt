@@ -1,10 +1,10 @@
 -- A list of the battles that an update can lead to (include/gen1.h, "exact outcomes").
-use Rattle.std.specs.Prelude.{List, Some, length, ℕ, ◌*◌, ◌+◌, ◌<◌, ◌≡◌, ◌≤◌, ◌⊎◌}
+use Rattle.std.specs.Prelude.{List, Some, length, ℕ, ◌*◌, ◌+◌, ◌<◌, ◌≡◌, ◌≤◌, ◌⊎◌, take}
 use Rattle.gen1_machine.specs.declared.choice.Choice.{Choice}
 use Rattle.gen1_machine.specs.State.{State}
 use Rattle.gen1_machine.specs.Step.{Accepted, Answer, Refused}
 use Rattle.gen1_engine.specs.Replay.{choices_at, step_by_bytes}
-use Rattle.gen1_engine.specs.Update.{refusal_of}
+use Rattle.gen1_engine.specs.Update.{refusal_of, AreOffered}
 use Rattle.gen1_outcomes.specs.declared.options.OutcomeOptions.{OutcomeOptions}
 use Rattle.gen1_outcomes.specs.declared.successor.Successor.{Successor}
 use Rattle.gen1_outcomes.specs.Complete.{IsExact, ListsEvery}
@@ -14,6 +14,10 @@ use Rattle.gen1_outcomes.specs.Weights.{HasProbabilities}
 use Rattle.gen1_c.specs.Codes.{refusal_code}
 use Rattle.gen1_c.specs.declared.outcomes.OutcomeForm.{OutcomeForm}
 use Rattle.gen1_c.specs.declared.outcomes.OutcomeList.{OutcomeList}
+use Rattle.gen1_outcomes.specs.declared.nodes.Chance.{Chance}
+use Rattle.gen1_outcomes.specs.declared.plain.PlainWalk.{PlainWalk}
+use Rattle.gen1_outcomes.specs.Plain.{IsWay}
+use Rattle.gen1_c.specs.declared.walks.WayForm.{WayForm}
 
 -- the arrays that a call may write
 pub record Arrays : Type 0 where
@@ -63,3 +67,31 @@ ListsAs (Accepted events) s bytes options old new list code =
 
 abbrev pub Lists : State → ℕ × ℕ → OutcomeOptions → Arrays → Arrays → OutcomeList → ℕ → Type 0
 Lists s bytes = ListsAs (step_by_bytes s bytes).answer s bytes
+
+-- The ways of an update, one after the other (include/gen1.h, "exact outcomes").
+
+-- both bytes are choices that are offered
+abbrev pub Offers : State → ℕ × ℕ → Type 0
+Offers s bytes = (pair : Choice × Choice) × (choices_at bytes ≡ Some pair) × AreOffered s pair.0 pair.1
+
+-- the probability of a way: how many parts of how many
+abbrev pub part_of : WayForm → ℕ
+part_of way = way.low + way.high * 18446744073709551616
+
+abbrev pub parts_of : WayForm → ℕ
+parts_of way = way.whole_low + way.whole_high * 18446744073709551616
+
+-- the probability is that of the draws of a way, after which the walk continues, or ends
+pub record HasChance (walk : PlainWalk) (way : WayForm) : Type 0 where
+  pub chance : Chance
+  pub part : part_of way ≡ chance.num
+  pub parts : parts_of way ≡ chance.whole
+  pub is_way : IsWay chance walk
+
+-- the log bytes of a way
+abbrev pub told_in : WayForm → List ℕ
+told_in way = take way.log_length way.log
+
+-- 0; that the way has too many draws; or that no way is left
+abbrev pub IsWalkCode : ℕ → Type 0
+IsWalkCode code = (code ≡ 0) ⊎ (code ≡ 31) ⊎ (code ≡ 36)

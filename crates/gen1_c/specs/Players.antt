@@ -8,10 +8,18 @@ use Rattle.gen1_events.specs.Reader.{Breaks}
 use Rattle.gen1_events.specs.Splits.{IsReading, Splits}
 use Rattle.gen1_player.specs.declared.player.PlayerTerms.{PlayerTerms}
 use Rattle.gen1_player.specs.declared.teller.Teller.{Teller}
-use Rattle.gen1_player.specs.Retelling.{HasFault}
-use Rattle.gen1_player.specs.Telling.{form_number, form_of, meets_all, told_all}
+use Rattle.gen1_player.specs.Telling.{HasFault, form_number, form_of, meets_all, told_all}
 use Rattle.gen1_c.specs.Fronts.{over_front}
 use Rattle.gen1_c.specs.declared.players.PlayerTermsForm.{PlayerTermsForm}
+use Rattle.gen1_stats.specs.Teams.{team_of}
+use Rattle.gen1_guesses.specs.declared.fault.GuessFault.{GuessFault}
+use Rattle.gen1_guesses.specs.declared.guess.Guess.{Guess}
+use Rattle.gen1_c.specs.Teams.{sheets_of}
+use Rattle.gen1_c.specs.Battle.{fault_form}
+use Rattle.gen1_c.specs.declared.guesses.GuessFaultForm.{GuessFaultForm}
+use Rattle.gen1_c.specs.declared.guesses.GuessForm.{GuessForm}
+use Rattle.gen1_c.specs.declared.view.StateFaultForm.{StateFaultForm}
+use Rattle.gen1_guesses.specs.declared.fault.GuessFault.TheVariants as faults
 
 abbrev pub side_code : ℕ → ℕ
 side_code side = if nat_le 1 side && nat_le side 2 then 0 else 40
@@ -61,3 +69,31 @@ pub record Tells (log : List ℕ) (old new : Telling) (code : ℕ) : Type 0 wher
   pub broken : length log ≤ 512 → length log ≤ length old.bytes → code ≢ 0 → (fault : LogFault) × (code ≡ log_code fault) × HasFault log fault
   pub told : code ≡ 0 → IsTold log old new
   pub kept : code ≢ 0 → new ≡ old
+
+-- The guess of what a player can't know, and what does not fit, as plain structs (include/gen1.h, "players").
+
+abbrev pub guess_of : GuessForm → Guess
+guess_of f = record { team = team_of (sheets_of f.team); numbers = f.numbers }
+
+-- What does not fit.
+abbrev pub code_of : GuessFault → ℕ
+code_of faults.NotGoingOn = 96
+code_of (faults.Count count) = 97
+code_of (faults.Member member) = 98
+code_of (faults.Hp member) = 100
+code_of (faults.Move member id) = 99
+code_of (faults.State fault) = 23
+
+abbrev pub no_state_fault : StateFaultForm
+no_state_fault = record { value = 0; low = 0; high = 0; field = 0; side = 0; place = 0; index = 0 }
+
+abbrev pub guess_form : StateFaultForm → ℕ → ℕ → ℕ → GuessFaultForm
+guess_form state count member move = record { state = state; count = count; member = member; move_number = move; unused = 0 }
+
+abbrev pub fault_form_of : GuessFault → GuessFaultForm
+fault_form_of faults.NotGoingOn = guess_form no_state_fault 0 0 0
+fault_form_of (faults.Count count) = guess_form no_state_fault count 0 0
+fault_form_of (faults.Member member) = guess_form no_state_fault 0 member 0
+fault_form_of (faults.Hp member) = guess_form no_state_fault 0 member 0
+fault_form_of (faults.Move member id) = guess_form no_state_fault 0 member id
+fault_form_of (faults.State fault) = guess_form (fault_form fault) 0 0 0

@@ -19,11 +19,10 @@ use Rattle.gen1_engine.specs.Update.{refusal_of}
 use Rattle.gen1_spectator.specs.Plain.{reading_of, view_of}
 use Rattle.gen1_spectator.specs.Watching.{AreRead, joined}
 use Rattle.gen1_spectator.specs.declared.plain.PlainSpectator.{PlainSpectator}
-use Rattle.gen1_c.specs.Battle.{new_fault}
+use Rattle.gen1_c.specs.Battle.{new_fault, result_byte}
 use Rattle.gen1_c.specs.Codes.{refusal_code}
 use Rattle.gen1_c.specs.Fronts.{over_front}
 use Rattle.gen1_c.specs.Teams.{sheets_of}
-use Rattle.gen1_c.specs.Update.{result_byte}
 use Rattle.gen1_c.specs.declared.the_theorem.Beginning.{Beginning}
 use Rattle.gen1_c.specs.declared.the_theorem.Update.{Update}
 

@@ -3,7 +3,7 @@ ghost use Rattle.std.specs.Prelude.{length, ◌≡◌, ◌≢◌};
 ghost use Rattle.gen1_machine.specs.Numbers.{side_number};
 ghost use Rattle.gen1_machine.specs.declared.side.Side.{Side};
 ghost use Rattle.gen1_c.specs.Batches.{AreMasks, AreUpdated};
-ghost use Rattle.gen1_c.specs.Update.{IsNoSide};
+ghost use Rattle.gen1_c.specs.Battle.{IsNoSide};
 
 use crate::codes::{LENGTHS, SIDE};
 use crate::update::{gen1_result, gen1_update_silent};

@@ -8,8 +8,7 @@ ghost use Rattle.gen1_machine.specs.declared.choice.Choice.{Choice};
 ghost use Rattle.gen1_machine.specs.declared.side.Side.{Side};
 ghost use Rattle.gen1_layout.specs.Within.{Stands};
 ghost use Rattle.gen1_offers.specs.OfferedMask.{all_choices, choices_in, chosen_by};
-ghost use Rattle.gen1_c.specs.Choices.{IsWritten};
-ghost use Rattle.gen1_c.specs.Update.{IsNoSide, Offers};
+ghost use Rattle.gen1_c.specs.Battle.{IsNoSide, IsWritten, Offers};
 
 use gen1_engine::packed::offered_mask;
 use gen1_layout::Packed;

@@ -4,8 +4,8 @@ ghost use Rattle.gen1_machine.specs.Numbers.{side_number};
 ghost use Rattle.gen1_machine.specs.State.{State};
 ghost use Rattle.gen1_machine.specs.declared.side.Side.{Side};
 ghost use Rattle.gen1_layout.specs.Within.{Stands};
-ghost use Rattle.gen1_c.specs.Damage.{TellsDamages, damages_due};
-ghost use Rattle.gen1_c.specs.Update.{IsNoSide};
+ghost use Rattle.gen1_c.specs.Odds.{TellsDamages, damages_due};
+ghost use Rattle.gen1_c.specs.Battle.{IsNoSide};
 
 use gen1_hits::{damage_list, has_usual_damage, numbers};
 use gen1_layout::Packed;

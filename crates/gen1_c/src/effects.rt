@@ -1,7 +1,7 @@
 //! The numbers of effects, and which moves come first or are often critical (include/gen1.h, "naming"; docs/TABLES.md, "Effects").
 ghost use Rattle.std.specs.Prelude.{◌≡◌};
 ghost use Rattle.gen1_machine.specs.Moves.{is_often_critical};
-ghost use Rattle.gen1_c.specs.Effects.{effect_number, priority_of};
+ghost use Rattle.gen1_c.specs.Names.{effect_number, priority_of};
 
 use gen1_tables::{Effect, MoveId};
 

@@ -7,7 +7,7 @@ ghost use Rattle.gen1_guesses.specs.declared.fault.GuessFault.TheVariants as fau
 ghost use Rattle.gen1_states.specs.Bytes.{bytes_of};
 ghost use Rattle.gen1_states.specs.Completed.{completed};
 ghost use Rattle.gen1_states.specs.WholeTests.{fault_of};
-ghost use Rattle.gen1_c.specs.Guesses.{code_of, guess_form, guess_of, fault_form_of, no_state_fault};
+ghost use Rattle.gen1_c.specs.Players.{code_of, fault_form_of, guess_form, guess_of, no_state_fault};
 ghost use Rattle.gen1_c.specs.Teams.{team_fault};
 
 use crate::codes::STATE;

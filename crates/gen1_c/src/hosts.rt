@@ -11,7 +11,7 @@ ghost use Rattle.gen1_host.specs.Replies.{why_of};
 ghost use Rattle.gen1_host.specs.Table.{Row as TableRow, Table, after_row, current_pair, reply_to_row};
 ghost use Rattle.gen1_player.specs.Telling.{form_of};
 ghost use Rattle.gen1_c.specs.Hosts.{Refuses, byte_of_result, fault_code, numbers_of, reply_code, row_of, rules_of, why_code};
-ghost use Rattle.gen1_c.specs.Update.{IsNoSide, IsResult};
+ghost use Rattle.gen1_c.specs.Battle.{IsNoSide, IsResult};
 
 use crate::codes::{SIDE, of_load};
 use gen1_host::{Host, HostFault, HostRefusal, HouseRules, Message, Notice, Row};

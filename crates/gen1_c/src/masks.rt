@@ -5,7 +5,7 @@ ghost use Rattle.gen1_machine.specs.State.{State};
 ghost use Rattle.gen1_machine.specs.declared.side.Side.{Side};
 ghost use Rattle.gen1_layout.specs.Within.{Stands};
 ghost use Rattle.gen1_engine.specs.OfferedMask.{offered_mask};
-ghost use Rattle.gen1_c.specs.Update.{IsNoSide};
+ghost use Rattle.gen1_c.specs.Battle.{IsNoSide};
 
 use gen1_engine::packed::offered_mask;
 use gen1_layout::Packed;

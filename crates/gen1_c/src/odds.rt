@@ -10,7 +10,7 @@ ghost use Rattle.gen1_odds.specs.KnockOut.{AreChances, AreThree};
 ghost use Rattle.gen1_odds.specs.Odds.{IsListed};
 ghost use Rattle.gen1_c.specs.Odds.{Tells, action_odds_due, between_fault, chances_due, drained_due, facing, hit_test_due, odds_due, odds_of_state, recoil_due, three_chances_due, use_due};
 ghost use Rattle.gen1_c.specs.Teams.{sheet_of};
-ghost use Rattle.gen1_c.specs.Update.{IsNoSide};
+ghost use Rattle.gen1_c.specs.Battle.{IsNoSide};
 
 use crate::teams::{MemberForm, team_of_one};
 use gen1_engine::packed::update_events;

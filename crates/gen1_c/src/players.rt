@@ -7,12 +7,11 @@ ghost use Rattle.gen1_machine.specs.declared.side.Side.{Side};
 ghost use Rattle.gen1_machine.specs.Numbers.{side_number};
 ghost use Rattle.gen1_events.specs.declared.fault.LogFault.{LogFault};
 ghost use Rattle.gen1_layout.specs.Within.{Stands};
-ghost use Rattle.gen1_player.specs.OwnSide.{own_side};
-ghost use Rattle.gen1_player.specs.PlainOwnSide.{IsListed, plain_side};
+ghost use Rattle.gen1_player.specs.OwnSide.{IsListed, own_side, plain_side};
 ghost use Rattle.gen1_player.specs.Player.{IsFed, IsPlayer, Shown, not_shown, player_of};
 ghost use Rattle.gen1_c.specs.Players.{BreaksOff, Tells, begin_code, first_teller, log_code, side_code, terms_code, terms_of};
 ghost use Rattle.gen1_c.specs.Teams.{sheets_of, team_fault};
-ghost use Rattle.gen1_c.specs.Update.{IsNoSide};
+ghost use Rattle.gen1_c.specs.Battle.{IsNoSide};
 
 use crate::codes::{RULES, TURN_LIMIT, of_log};
 use crate::fronts::put_front;

@@ -2,7 +2,7 @@
 ghost use Rattle.std.specs.Prelude.{◌≡◌, ◌≢◌};
 ghost use Rattle.gen1_layout.specs.Parts.{joined};
 ghost use Rattle.gen1_playouts.specs.Playouts.{total};
-ghost use Rattle.gen1_c.specs.Playouts.{Plays, depth_of, options_of};
+ghost use Rattle.gen1_c.specs.Batches.{Plays, depth_of, options_of};
 
 use crate::codes::of_load;
 use gen1_layout::Packed;

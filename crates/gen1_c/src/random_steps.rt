@@ -4,7 +4,7 @@ ghost use Rattle.gen1_machine.specs.Choices.{byte_of_choice, choice_at};
 ghost use Rattle.gen1_machine.specs.State.{State};
 ghost use Rattle.gen1_layout.specs.Within.{Stands};
 ghost use Rattle.gen1_playouts.specs.Playouts.{begun};
-ghost use Rattle.gen1_c.specs.RandomSteps.{AreListed, AreStepped, HasLengths, IsAt, IsListed, IsStart, IsStepped, started_again, one_if_over, over_in};
+ghost use Rattle.gen1_c.specs.Batches.{AreListed, AreStepped, HasLengths, IsAt, IsListed, IsStart, IsStepped, one_if_over, over_in, started_again};
 
 use crate::batches::BatchUpdate;
 use crate::codes::{LENGTHS, OVER};

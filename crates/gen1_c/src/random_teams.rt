@@ -1,7 +1,6 @@
 //! Random teams, and the sample teams (include/gen1.h, "random teams"; docs/MECHANICS.md, "Random teams").
 ghost use Rattle.std.specs.Prelude.{◌≡◌};
-ghost use Rattle.gen1_c.specs.RandomTeams.{GivesTeam, random_due, sample_due, source};
-ghost use Rattle.gen1_c.specs.Teams.{team_fault};
+ghost use Rattle.gen1_c.specs.Teams.{GivesTeam, random_due, sample_due, source, team_fault};
 
 use crate::codes::UNKNOWN;
 use crate::team_text::form_of;

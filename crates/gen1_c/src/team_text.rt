@@ -7,8 +7,7 @@ ghost use Rattle.gen1_writer.specs.Export.{text_of};
 ghost use Rattle.gen1_writer.specs.PackedLine.{packed_of};
 ghost use Rattle.gen1_writer.specs.Written.{write_refusal};
 ghost use Rattle.gen1_c.specs.Fronts.{Writes};
-ghost use Rattle.gen1_c.specs.TeamText.{TellsTeam, code_of, expected, form_of, member_at, member_of, move_at, of_packed, of_team, of_text, of_write, packed_due, team_due, text_due, written_due};
-ghost use Rattle.gen1_c.specs.Teams.{number_fault, sheets_of};
+ghost use Rattle.gen1_c.specs.Teams.{TellsTeam, code_of, expected, form_of, member_at, member_of, move_at, number_fault, of_packed, of_team, of_text, of_write, packed_due, sheets_of, team_due, text_due, written_due};
 
 use crate::codes::{TEXT_FIELDS, TEXT_SEVENTH_MEMBER, TEXT_TEAM, UNWRITABLE};
 use crate::fronts::write_text;

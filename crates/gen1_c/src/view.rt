@@ -8,7 +8,7 @@ ghost use Rattle.gen1_states.specs.Bytes.{bytes_of};
 ghost use Rattle.gen1_states.specs.Completed.{completed};
 ghost use Rattle.gen1_states.specs.Reading.{HasKinds, IsCopied, state_of};
 ghost use Rattle.gen1_states.specs.WholeTests.{fault_of};
-ghost use Rattle.gen1_c.specs.View.{fault_form};
+ghost use Rattle.gen1_c.specs.Battle.{fault_form};
 
 use crate::codes::STATE;
 use gen1_layout::Packed;

@@ -32,14 +32,13 @@ use Rattle.gen1_player.specs.declared.public.Public.{Public}
 use Rattle.gen1_player.specs.declared.public_side.PublicSide.{PublicSide}
 use Rattle.gen1_player.specs.declared.seen.Seen.{Seen}
 use Rattle.gen1_player.specs.declared.teller.Teller.{Teller}
-use Rattle.gen1_player.specs.OwnSide.{own_active, own_side}
-use Rattle.gen1_player.specs.PlainOwnSide.{nobody_out as none_out, plain_out, plain_side}
+use Rattle.gen1_player.specs.OwnSide.{own_active, own_side, nobody_out as none_out, plain_out, plain_side}
 use Rattle.gen1_player.specs.Public.{on_public_side, public_side, seen_at}
 use Rattle.gen1_player.specs.Telling.{form_number, form_of, meets_all, told_in}
 use Rattle.gen1_player.specs.True.{as_known, current_move_of, IsMoveOf, events_in, first_teller, foe_as_told, is_fault, own_as_known, public_of, team_of, with_hp_told, AgreesWith, BothDo, IsSeen, IsTold, SideAgrees, SideDoes, SideHasAppeared, SideIsTold, SideSleeps, own_known}
 use Rattle.gen1_player.proofs.Conditions.{conditions_agree}
 use Rattle.gen1_player.proofs.DeedRuns.{actives_agree}
-use Rattle.gen1_player.proofs.HpForms.{tells_hp}
+use Rattle.gen1_player.proofs.Retellings.{tells_hp}
 use Rattle.gen1_player.proofs.Lenses.{is-some, is-zero}
 use Rattle.gen1_player.proofs.Members.{all-tellable, members_agree}
 use Rattle.gen1_player.proofs.Placing.{agrees}
@@ -48,10 +47,9 @@ use Rattle.gen1_player.proofs.ToldPublic.{holds, met, FoeKept, Known}
 use Rattle.gen1_states.specs.Faults.{on as on_if}
 use Rattle.gen1_states.specs.Plain.{no_member}
 use Rattle.gen1_states.specs.declared.plain.MemberState.{MemberState}
-use Rattle.gen1_guesses.specs.Forks.{AgreesWithFork, ForksAgree, IsFork, IsGuess, HasPlayer, IsToldAs, TrueHpFits, clause_of, foe_part, own_part}
+use Rattle.gen1_guesses.specs.Forks.{AgreesWithFork, ForksAgree, IsFork, IsGuess, HasPlayer, IsToldAs, TrueHpFits, clause_of, foe_part, own_part, allows_max}
 use Rattle.gen1_guesses.specs.Active.{is_on}
 use Rattle.gen1_guesses.specs.Members.{fresh_members, hp_of, seen_in}
-use Rattle.gen1_guesses.specs.Tests.{allows_max}
 use Rattle.gen1_guesses.specs.declared.guess.Guess.{Guess}
 use Rattle.gen1_guesses.proofs.OwnForked.{short-of, IsShort, appeared-alike, does-alike, lives-alike, own_poison, shows_at, told-alike, view-alike, Alike, own_alike, own_plain, same_shown, slot_of_own, stats_of_own, Shows, shows as shows_own, own_sleeps}
 use Rattle.gen1_guesses.proofs.FoeForked.{counted_if, foe_appeared, foe_does, foe_place, foe_told, foe_view, traps_on, and_same, exact, flag_of, guess_fits, on_is, told_there, Fits, Foe, IsFlag, foe_sleeps}

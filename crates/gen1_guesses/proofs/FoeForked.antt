@@ -28,9 +28,8 @@ use Rattle.gen1_states.specs.Reading.{member_state}
 use Rattle.gen1_states.specs.declared.plain.ActiveState.{ActiveState}
 use Rattle.gen1_states.specs.declared.plain.MemberState.{MemberState}
 use Rattle.gen1_guesses.specs.Active.{foe_bits, is_on, used_slot}
-use Rattle.gen1_guesses.specs.Forks.{foe_part, IsToldAs}
+use Rattle.gen1_guesses.specs.Forks.{foe_part, IsToldAs, at_index, id_in, knows as knows_move, tested, tested_member, tested_members, tested_use, tested_uses, unless, Tested, tested_hp}
 use Rattle.gen1_guesses.specs.Members.{member_at as place_in, members_of, seen_in, sleep_of, told, told_if_seen, hp_of}
-use Rattle.gen1_guesses.specs.Tests.{at_index, id_in, knows as knows_move, tested, tested_member, tested_members, tested_use, tested_uses, unless, Tested, tested_hp}
 use Rattle.gen1_guesses.specs.declared.fault.GuessFault.{GuessFault}
 use Rattle.gen1_guesses.specs.declared.fault.GuessFault.TheVariants as faults
 use Rattle.gen1_guesses.proofs.OwnForked.{bit_back, bits_same, four, is-move, knows_used, shows_at, marked-by, turns-left, IsShort}

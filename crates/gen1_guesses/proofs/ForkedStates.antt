@@ -6,9 +6,8 @@ use Rattle.gen1_player.specs.Public.{public_side}
 use Rattle.gen1_player.specs.declared.player.Player.{Player}
 use Rattle.gen1_player.specs.declared.public_side.PublicSide.{PublicSide}
 use Rattle.gen1_states.specs.declared.plain.MemberState.{MemberState}
-use Rattle.gen1_guesses.specs.Forks.{clause_of, forked, guessed_for, if_fits, foe_of, foe_request, guessed_state, in_order, own_of, IsFork}
+use Rattle.gen1_guesses.specs.Forks.{clause_of, forked, guessed_for, if_fits, foe_of, foe_request, guessed_state, in_order, own_of, IsFork, Tested, tested}
 use Rattle.gen1_guesses.specs.Members.{fresh_members}
-use Rattle.gen1_guesses.specs.Tests.{Tested, tested}
 use Rattle.gen1_guesses.specs.declared.guess.Guess.{Guess}
 use Rattle.std.specs.Prelude.{if◌then◌else◌, min}
 use Rattle.gen1_tables.specs.declared.effect.Stat.{Stat}

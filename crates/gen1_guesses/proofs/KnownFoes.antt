@@ -7,7 +7,7 @@ use Rattle.std.proofs.lemmas.Nat.{div_below, le-div, mul-le}
 use Rattle.gen1_player.specs.declared.hp_form.HpForm.{HpForm}
 use Rattle.gen1_player.specs.declared.hp_form.HpForm.TheVariants.{Bar, Exact, Hundredths}
 use Rattle.gen1_player.specs.Telling.{bar, bar_divisor, bar_factor, filled, form_of, hundredths, told_in, slot_of, IsInSlot, IsTeller}
-use Rattle.gen1_player.proofs.HpForms.{bar_few}
+use Rattle.gen1_player.proofs.Retellings.{bar_few}
 use Rattle.gen1_guesses.specs.Forks.{ForksTellHp, IsToldAs, foe_part}
 use Rattle.gen1_guesses.specs.Members.{hp_of, seen_in, fresh_members, members_of, told, told_if_seen}
 use Rattle.std.proofs.lemmas.List.{get_or-map, length-map, get_or_past}

@@ -22,8 +22,7 @@ use Rattle.gen1_machine.specs.State.{known_in, member_at, Party, active_in, cond
 use Rattle.gen1_machine.specs.View.{shown, shown_at, side_shows, Shown}
 use Rattle.gen1_player.specs.declared.own.OwnMember.{OwnMember}
 use Rattle.gen1_player.specs.declared.public_side.PublicSide.{PublicSide}
-use Rattle.gen1_player.specs.OwnSide.{own_conditions, own_member, OwnConditions, own_active, own_side}
-use Rattle.gen1_player.specs.PlainOwnSide.{plain_member, is_present, nobody_out, plain_out, plain_side, shown_bits}
+use Rattle.gen1_player.specs.OwnSide.{own_conditions, own_member, OwnConditions, own_active, own_side, plain_member, is_present, nobody_out, plain_out, plain_side, shown_bits}
 use Rattle.gen1_player.specs.declared.seen.Seen.{Seen}
 use Rattle.gen1_player.specs.Public.{new_uses, seen_at}
 use Rattle.gen1_player.specs.True.{current_move_of, knows, IsMoveOf, IsSeen, SideAgrees, SideDoes, SideHasAppeared, SideIsTold, IsAsleepBy, SideSleeps}
@@ -38,7 +37,7 @@ use Rattle.gen1_layout.proofs.Counts.{number_small}
 use Rattle.gen1_layout.proofs.WaysBack.{hp_fits_at, now_fits, stats_fit_at}
 use Rattle.gen1_player.specs.declared.own.OwnSide.{OwnSide}
 use Rattle.gen1_player.specs.Player.{not_shown_member}
-use Rattle.gen1_player.proofs.OwnSides.{as_many, counted, have_species, shown_at as own_shown_at}
+use Rattle.gen1_player.proofs.Fairness.{as_many, counted, have_species, shown_at as own_shown_at}
 use Rattle.gen1_states.specs.Faults.{on}
 use Rattle.gen1_states.specs.Completed.{are_left, completed_side, computed_stats}
 use Rattle.gen1_states.specs.ActiveTests.{member_out}

@@ -2,7 +2,5 @@
 pub mod Members
 -- The active members.
 pub mod Active
--- Whether a guess fits.
-pub mod Tests
 -- The battle, its state, and what holds of it.
 pub mod Forks

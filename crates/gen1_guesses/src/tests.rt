@@ -1,6 +1,6 @@
 //! Whether a guess fits what a player knows (docs/MECHANICS.md, "A battle that fits").
 ghost use Rattle.std.specs.Prelude.{◌<◌, ◌≡◌};
-ghost use Rattle.gen1_guesses.specs.Tests.{at_index, allows_max, id_in, knows, tested, tested_count, tested_going, tested_hp, tested_member, tested_members, tested_use, tested_uses};
+ghost use Rattle.gen1_guesses.specs.Forks.{allows_max, at_index, id_in, knows, tested, tested_count, tested_going, tested_hp, tested_member, tested_members, tested_use, tested_uses};
 
 use crate::fault::GuessFault;
 use crate::members::{hp_of, member_at};
@@ -12,7 +12,7 @@ use gen1_states::MemberState;
 const STRUGGLE: u8 = 165;
 
 /// The first fact that does not fit, of a guess with so many members, which are `fresh`.
-#[tactic(auto, unfolding(crate::specs::Tests::tested))]
+#[tactic(auto, unfolding(crate::specs::Forks::tested))]
 pub(crate) fn test(
     player: &Player,
     foe: &PublicSide,
@@ -51,7 +51,7 @@ fn test_count(known: u8, count: u8) -> Result<(), GuessFault>
     }
 }
 
-#[tactic(auto, unfolding(crate::specs::Tests::tested_members))]
+#[tactic(auto, unfolding(crate::specs::Forks::tested_members))]
 fn test_members(form: u8, seen: &[Seen; 6], fresh: &[MemberState; 6]) -> Result<(), GuessFault>
     ensures { result ≡ tested_members form seen.now fresh.now }
 {
@@ -115,7 +115,7 @@ pub fn allows_max(form: u8, seen: &Seen, most: u16) -> bool
 }
 
 // It knows the moves that it was seen to prepare or to use.
-#[tactic(auto, unfolding(crate::specs::Tests::tested_uses))]
+#[tactic(auto, unfolding(crate::specs::Forks::tested_uses))]
 fn test_uses(number: u8, seen: &Seen, fresh: &MemberState) -> Result<(), GuessFault>
     ensures { result ≡ tested_uses number seen.now fresh.now }
 {

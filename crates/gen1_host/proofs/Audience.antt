@@ -11,8 +11,7 @@ use Rattle.gen1_player.specs.declared.teller.Teller.{Teller}
 use Rattle.gen1_host.specs.Table.{after_row, Agreed, Cancel, current_pair, Ended, Ending, Expire, first_due, Forfeit, Forfeited, HostReply, HouseRules, if_not_refused, is_closed, Kept, OfferDraw, Refused, Row, Submit, Table, taken_back}
 use Rattle.gen1_host.specs.Messages.{Notice, notice, outcome_by, outcome_of}
 use Rattle.gen1_host.specs.Secrecy.{AllEndAlike, AllSame, ends_pair, is_secret, KeepsSecretsFromAll, Matches, noticed, SameForAll}
-use Rattle.gen1_host.proofs.QuietSubmissions.{kept_seat, seat, submit_quiet, verdict_on}
-use Rattle.gen1_host.proofs.QuietRows.{as_submission, cancel_reply, cancel_row_after, draw_table, forfeit_ends, late_quiet, offered_by}
+use Rattle.gen1_host.proofs.QuietRows.{kept_seat, seat, submit_quiet, verdict_on, as_submission, cancel_reply, cancel_row_after, draw_table, forfeit_ends, late_quiet, offered_by}
 use Rattle.gen1_host.proofs.EndedPairs.{closed_table, goes}
 use Rattle.gen1_host.proofs.Secrecy.{no_truth}
 

@@ -10,8 +10,7 @@ use Rattle.gen1_machine.specs.Room.{chosen}
 use Rattle.gen1_machine.specs.Rules.{bit_of}
 use Rattle.gen1_machine.specs.Sides.{other}
 use Rattle.gen1_machine.specs.State.{same_side}
-use Rattle.gen1_room.specs.Plain.{due}
-use Rattle.gen1_room.specs.Rooms.{submission_of}
+use Rattle.gen1_room.specs.Rooms.{due, submission_of}
 use Rattle.gen1_host.specs.declared.host.Host.{Host}
 use Rattle.gen1_host.specs.declared.reply.HostRefusal.{HostRefusal as Why}
 use Rattle.gen1_host.specs.declared.reply.HostRefusal.TheVariants as whys

@@ -13,8 +13,7 @@ use Rattle.gen1_player.specs.Telling.{meets_all}
 use Rattle.gen1_host.specs.Table.{after_row, Agreed, Cancel, current_pair, drawing, Ended, Ending, ends_as, Expire, first_due, Forfeit, Forfeited, goes_on, HasChosen, host_reply, HostReply, HouseRules, if_not_refused, is_closed, Kept, OfferDraw, OtherPair, Refused, reply_to_row, Row, Submit, Table, TableOver, taken_back}
 use Rattle.gen1_host.specs.Messages.{chosen_at, message, own_at, Sent}
 use Rattle.gen1_host.specs.Secrecy.{ends_pair}
-use Rattle.gen1_host.proofs.QuietSubmissions.{row_after, row_reply, same_number, seat, submit_settles, verdict}
-use Rattle.gen1_host.proofs.QuietRows.{as_submission, cancel_reply, cancel_row_after, draw_reply, draw_row_after, draw_row_reply, drawn, late_reply, late_row_after, late_row_reply}
+use Rattle.gen1_host.proofs.QuietRows.{row_after, row_reply, same_number, seat, submit_settles, verdict, as_submission, cancel_reply, cancel_row_after, draw_reply, draw_row_after, draw_row_reply, drawn, late_reply, late_row_after, late_row_reply}
 
 -- Pass, of a side that is asked nothing
 abbrev pub fresh : Sent → Option Choice

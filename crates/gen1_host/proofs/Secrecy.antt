@@ -15,8 +15,7 @@ use Rattle.gen1_room.specs.Rooms.{submission_of}
 use Rattle.gen1_host.specs.Table.{after_row, Agreed, changed_by, draw_offered, drawing, ends_as, goes_on, submitted, Cancel, current_pair, Ended, Ending, Expire, first_byte, first_due, Forfeit, Forfeited, HasChosen, HostReply, HouseRules, if_not_refused, is_closed, Kept, OfferDraw, OtherPair, Refused, reply_to_row, Row, Submit, Table, TableOver}
 use Rattle.gen1_host.specs.Messages.{chosen_at, message, own_at, own_by, Sent}
 use Rattle.gen1_host.specs.Secrecy.{EndAlike, ends_pair, is_hidden, KeepsSecrets, Matches, Received, received, reply_for, SameRow, SameRows, Seen, seen_by, side_of}
-use Rattle.gen1_host.proofs.QuietSubmissions.{foretold_submit, Foretold, hidden_submit, own_submit, pick, seat, seat_seen, seen_submit, side_is, view}
-use Rattle.gen1_host.proofs.QuietRows.{as_submission, draw_quiet, foretold_cancel, forfeit_ends, hidden_cancel, late_quiet, off, on, own_cancel, seen_cancel, seen_draw}
+use Rattle.gen1_host.proofs.QuietRows.{foretold_submit, Foretold, hidden_submit, own_submit, pick, seat, seat_seen, seen_submit, side_is, view, as_submission, draw_quiet, foretold_cancel, forfeit_ends, hidden_cancel, late_quiet, off, on, own_cancel, seen_cancel, seen_draw}
 use Rattle.gen1_host.proofs.EndedPairs.{closed_reply, closed_table, ends_it, fresh, goes}
 
 -- 1. What a side can predict of a row that ends no pair, from what it sees

@@ -13,12 +13,11 @@ use Rattle.gen1_engine.specs.declared.result.BattleResult.{BattleResult}
 use Rattle.gen1_engine.specs.Update.{result_of}
 use Rattle.gen1_offers.specs.OfferedMask.{mask_of}
 use Rattle.gen1_player.specs.declared.teller.Teller.{Teller}
-use Rattle.gen1_player.specs.PlainOwnSide.{plain_side}
+use Rattle.gen1_player.specs.OwnSide.{plain_side}
 use Rattle.gen1_player.specs.declared.hp_form.HpForm.{HpForm}
 use Rattle.gen1_player.specs.Telling.{IsTeller, form_number}
 use Rattle.gen1_room.specs.declared.plain.PlainRoom.{PlainRoom}
-use Rattle.gen1_room.specs.Plain.{IsMarked, Keeps}
-use Rattle.gen1_room.specs.Rooms.{submission_of}
+use Rattle.gen1_room.specs.Rooms.{IsMarked, Keeps, submission_of}
 use Rattle.gen1_host.specs.declared.host.Host.{Host}
 use Rattle.gen1_host.specs.declared.host.HouseRules.{HouseRules as PlainRules}
 use Rattle.gen1_host.specs.declared.message.Message.{Message}

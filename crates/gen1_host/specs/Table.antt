@@ -11,8 +11,7 @@ use Rattle.gen1_machine.specs.Room.{Advanced, AlreadyChosen, ChoiceNotOffered, R
 use Rattle.gen1_machine.specs.State.{is_over, same_side, State}
 use Rattle.gen1_player.specs.declared.teller.Teller.{Teller}
 use Rattle.gen1_player.specs.Telling.{meets_all}
-use Rattle.gen1_room.specs.Plain.{due}
-use Rattle.gen1_room.specs.Rooms.{reseeded_in, submission_of}
+use Rattle.gen1_room.specs.Rooms.{due, reseeded_in, submission_of}
 
 -- How a table ends before its battle does: a side forfeits, or both sides agree on a draw.
 pub data Ending : Type 0 where

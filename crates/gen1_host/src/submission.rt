@@ -5,8 +5,7 @@ ghost use Rattle.gen1_machine.specs.Room.{Course, is_asked_to_pass};
 ghost use Rattle.gen1_events.specs.Splits.{IsReading};
 ghost use Rattle.gen1_machine.specs.declared.side.Side.{Side};
 ghost use Rattle.gen1_player.specs.Telling.{IsTeller, meets_all};
-ghost use Rattle.gen1_room.specs.Plain.{Keeps};
-ghost use Rattle.gen1_room.specs.Rooms.{submission_of};
+ghost use Rattle.gen1_room.specs.Rooms.{Keeps, submission_of};
 ghost use Rattle.gen1_host.specs.Table.{Cancel, Expire, Submit, Table, goes_on, has_none_to_cancel, reply_to_submission, submitted, taken_back};
 ghost use Rattle.gen1_host.specs.Hosts.{Follows, Hosts, IsRoomWithin, IsWithin, Takes};
 

@@ -31,7 +31,7 @@ use Rattle.gen1_machine.specs.Valid.{IsField}
 use Rattle.gen1_layout.proofs.Chain.{choose-false, choose-true, then-goes}
 use Rattle.gen1_odds.specs.Laws.{shows, Hitting, SideEffectCounts}
 use Rattle.gen1_odds.specs.Reasons.{is_lowest}
-use Rattle.gen1_odds.specs.SideEffects.{effect_draws, harm_draws, poison_draws, resists_freeze, resists_status, unless_guarded}
+use Rattle.gen1_odds.specs.Odds.{effect_draws, harm_draws, poison_draws, resists_freeze, resists_status, unless_guarded}
 use Rattle.gen1_odds.specs.Trials.{has_status_in, has_substitute_in}
 
 none-below : (b : ℕ) → nat_lt b 0 ≡ false

@@ -1,7 +1,5 @@
 -- How many of the 256 possible draws are below a bound.
 pub mod Counts
--- Sums over damages, the ways to which draws lead, and what is known of one use.
-pub mod Sums
 -- The hit test by its draw, and the phases that contain it.
 pub mod Tested
 pub mod Dealt
@@ -9,6 +7,5 @@ pub mod Dealt
 pub mod Gated
 -- A side effect, by its draw.
 pub mod Harmed
-pub mod Counted
 -- The chances of uses in a row.
 pub mod UsesInARow

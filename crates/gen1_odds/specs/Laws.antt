@@ -26,9 +26,8 @@ use Rattle.gen1_multiturn.specs.Counter.{can_counter_in}
 use Rattle.gen1_odds.specs.declared.reasons.Reason.{Reason}
 use Rattle.gen1_odds.specs.Acting.{is_stopped, still_confused}
 use Rattle.gen1_odds.specs.KnockOut.{needed}
-use Rattle.gen1_odds.specs.Odds.{passes}
+use Rattle.gen1_odds.specs.Odds.{passes, side_effect_draws}
 use Rattle.gen1_odds.specs.Reasons.{confusion_reason, paralysis_reason, poison_reason, seed_reason}
-use Rattle.gen1_odds.specs.SideEffects.{side_effect_draws}
 use Rattle.gen1_odds.specs.Trials.{goes_on_in, has_status_in, is_slower_in}
 
 -- An action of a side that has settled its move, and has neither missed nor stopped.

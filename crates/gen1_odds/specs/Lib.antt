@@ -6,8 +6,6 @@ pub mod Reasons
 pub mod Odds
 -- The chance that one use knocks out the foe, or two.
 pub mod KnockOut
--- How many draws give a hit its side effect.
-pub mod SideEffects
 -- Which draws let a member act, and make its move hit or hold the foe.
 pub mod Acting
 -- What the odds say of the machine's own phases.

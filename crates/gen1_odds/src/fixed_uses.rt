@@ -55,7 +55,7 @@ fn if_missed(odds: &Odds, each: u64) -> u64
     fixed_ways(odds) * each
 }
 
-#[tactic(auto, using(crate::proofs::Sums::range_more))]
+#[tactic(auto, using(crate::proofs::Counts::range_more))]
 fn once_ranged(odds: &Odds, halves: bool, need: u16) -> u64
     ensures is { result ≡ sum_by (λ damage. over (need - taken halves need damage))
         (range_with_len odds.now.least (fixed_ways odds.now)) }
@@ -109,7 +109,7 @@ pub(crate) fn twice_fixed(uses: &Fixed, change: HpChange, need: u16) -> u64
     mixed(uses.odds.hit_draws, hit, missed)
 }
 
-#[tactic(auto, using(crate::proofs::Sums::range_more))]
+#[tactic(auto, using(crate::proofs::Counts::range_more))]
 fn twice_ranged(uses: &Fixed, change: HpChange, need: u16) -> u64
     requires hits { uses.now.odds.hit_draws ≤ 256 }
     requires known { KnowsOnceFixed uses.now }
@@ -142,7 +142,7 @@ pub(crate) fn thrice_fixed(uses: &Fixed, between: &Between, need: u16) -> u128
     )
 }
 
-#[tactic(auto, using(crate::proofs::Sums::range_more))]
+#[tactic(auto, using(crate::proofs::Counts::range_more))]
 fn thrice_ranged(uses: &Fixed, between: &Between, need: u16) -> u128
     requires hits { uses.now.odds.hit_draws ≤ 256 }
     requires known { KnowsOnceFixed uses.now }

@@ -180,7 +180,7 @@ fn usual_chances(odds: &Odds, effect: Effect, need: u16, breaks_substitute: u8) 
     }
 }
 
-#[tactic(auto, using(crate::proofs::Sums::known_none))]
+#[tactic(auto, using(crate::proofs::Counts::known_none))]
 fn usual_twice(odds: &Odds, traps: bool, count: HitCount, need: u16) -> u64
     requires critical { odds.now.critical_draws ≤ 255 }
     requires hits { odds.now.hit_draws ≤ 256 }
@@ -264,7 +264,7 @@ fn room(hp: u16) -> u16
 
 // Damage by the move's own rule
 
-#[tactic(auto, using(crate::proofs::Sums::known_none))]
+#[tactic(auto, using(crate::proofs::Counts::known_none))]
 fn fixed_chances(odds: &Odds, halves: bool, need: u16, breaks_substitute: u8) -> Chances
     requires hits { odds.now.hit_draws ≤ 256 }
     ensures { result ≡ chances_of (after_fixed halves odds.now) (256 * fixed_ways odds.now) need breaks_substitute }

@@ -2,13 +2,13 @@
 ghost use Rattle.gen1_odds.specs.Laws.{BreaksIfNeeded, ConfusionCounts, CounterCounts, FixedCounts, GateCounts, ImmuneMisses, MustHitCounts, OneHitCounts, ParalysisCounts, PoisonCounts, SeedCounts, SideEffectCounts, SlowerMisses, TestCounts};
 
 /// A move misses in the hit test exactly by the draws that the odds do not count (docs/MECHANICS.md, "Hit test").
-#[tactic(auto, using(crate::proofs::Counted::test_counts))]
+#[tactic(auto, using(crate::proofs::Tested::test_counts))]
 pub fn test_counts()
     ensures { TestCounts }
 {}
 
 /// A test whose miss ends the action ends it by these draws (docs/MECHANICS.md, "Early effects", "Late effects").
-#[tactic(auto, using(crate::proofs::Counted::must_hit_counts))]
+#[tactic(auto, using(crate::proofs::Tested::must_hit_counts))]
 pub fn must_hit_counts()
     ensures { MustHitCounts }
 {}
@@ -44,25 +44,25 @@ pub fn one_hit_counts()
 {}
 
 /// A move that poisons fails for its reason, or by these draws (docs/MECHANICS.md, "Early effects").
-#[tactic(auto, using(crate::proofs::Counted::poison_counts))]
+#[tactic(auto, using(crate::proofs::Tested::poison_counts))]
 pub fn poison_counts()
     ensures { PoisonCounts }
 {}
 
 /// A move that paralyzes fails for its reason, or by these draws (docs/MECHANICS.md, "Early effects").
-#[tactic(auto, using(crate::proofs::Counted::paralysis_counts))]
+#[tactic(auto, using(crate::proofs::Tested::paralysis_counts))]
 pub fn paralysis_counts()
     ensures { ParalysisCounts }
 {}
 
 /// Leech Seed fails for its reason, or by these draws (docs/MECHANICS.md, "Early effects").
-#[tactic(auto, using(crate::proofs::Counted::seed_counts))]
+#[tactic(auto, using(crate::proofs::Tested::seed_counts))]
 pub fn seed_counts()
     ensures { SeedCounts }
 {}
 
 /// A move that confuses fails for its reason, or by these draws (docs/MECHANICS.md, "Early effects").
-#[tactic(auto, using(crate::proofs::Counted::confusion_counts))]
+#[tactic(auto, using(crate::proofs::Tested::confusion_counts))]
 pub fn confusion_counts()
     ensures { ConfusionCounts }
 {}
@@ -82,7 +82,7 @@ pub fn gate_counts()
 
 /// A substitute breaks by the damage that the chances to knock out take as needed, and by no less (docs/MECHANICS.md,
 /// "Landing").
-#[tactic(auto, using(crate::proofs::Counted::breaks_if_needed))]
+#[tactic(auto, using(crate::proofs::Tested::breaks_if_needed))]
 pub fn breaks_if_needed()
     ensures { BreaksIfNeeded }
 {}

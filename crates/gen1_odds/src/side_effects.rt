@@ -3,7 +3,7 @@ ghost use Rattle.std.specs.Prelude.{◌&&◌, ◌||◌, ◌≡◌, ◌≤◌};
 ghost use Rattle.gen1_layout.specs.Words.{Reads, active_in, is_frozen, move_at, other, party};
 ghost use Rattle.gen1_tables.specs.declared.element.Element.TheVariants.{Poison};
 ghost use Rattle.gen1_machine.specs.State.{any_living, has_type};
-ghost use Rattle.gen1_odds.specs.SideEffects.{effect_draws, harm_draws, poison_draws, resists_freeze, resists_status, side_effect_draws, unless_guarded};
+ghost use Rattle.gen1_odds.specs.Odds.{effect_draws, harm_draws, poison_draws, resists_freeze, resists_status, side_effect_draws, unless_guarded};
 ghost use Rattle.gen1_odds.specs.Trials.{ReadsUnder, has_status_in};
 
 use crate::foe_reasons::is_lowest;

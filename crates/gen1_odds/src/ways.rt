@@ -51,7 +51,7 @@ pub(crate) fn over(left: u16) -> u64
 }
 
 // Of 256 draws some lead one way, and the others another.
-#[tactic(auto, using(crate::proofs::Sums::parted))]
+#[tactic(auto, using(crate::proofs::Counts::parted))]
 pub(crate) fn mixed(draws: u16, one: u64, another: u64) -> u64
     requires draws { draws ≤ 256 }
     requires one { one ≤ 18014398509481984 }

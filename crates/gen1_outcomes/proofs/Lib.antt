@@ -8,13 +8,8 @@ pub mod Leading
 pub mod Levels
 pub mod Lists
 pub mod Logs
-pub mod Moved
 pub mod Offered
-pub mod Ordering
-pub mod Orders
-pub mod Parts
 pub mod Paths
-pub mod Played
 pub mod PlayedLists
 pub mod Positions
 pub mod Repeated

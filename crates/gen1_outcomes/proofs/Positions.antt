@@ -26,7 +26,7 @@ use Rattle.gen1_outcomes.specs.Middles.{AreReached, Arrives, IsAdded, IsAt, IsRe
 use Rattle.gen1_outcomes.specs.Script.{script_of, scripted}
 use Rattle.gen1_outcomes.proofs.Complete.{none_missed}
 use Rattle.gen1_outcomes.proofs.Lists.{same_or}
-use Rattle.gen1_outcomes.proofs.Ordering.{none_ordered, ordered_agree}
+use Rattle.gen1_outcomes.proofs.Swapping.{none_ordered, ordered_agree}
 use Rattle.gen1_outcomes.proofs.Shifts.{NoneMissed, agrees_first, agrees_then, arrives_by, arrives_there, dropped, follows_arrived, follows_from, joined_agree, none_both, on_whole, phase-dropped, phase-restarted, place-dropped, place_both, ready_on, rest-tree}
 
 -- What is known of a position is known of each with the same bytes and the same rest.

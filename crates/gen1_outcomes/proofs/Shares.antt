@@ -14,7 +14,7 @@ use Rattle.gen1_outcomes.specs.Chances.{IsBelow}
 use Rattle.gen1_outcomes.specs.Listing.{AreThose, battle_at, weight_of}
 use Rattle.gen1_outcomes.specs.Shares.{Adds, AreProbable, CountsEach, EachIsProbable, GetsShare, Grows, IsLeft, KeepsShares, StayProbable, TakesEach, weight_at, weight_before}
 use Rattle.gen1_outcomes.specs.Merging.{LeavesOut}
-use Rattle.gen1_outcomes.proofs.Parts.{both_positive, grown, grown_first, least_grown, most_grown, scaled, still_least, still_most}
+use Rattle.gen1_outcomes.proofs.Fractions.{both_positive, grown, grown_first, least_grown, most_grown, scaled, still_least, still_most}
 
 same_or : (m n : ℕ) → (m ≡ n) ⊎ (m ≢ n)
 same_or m n = grind arith

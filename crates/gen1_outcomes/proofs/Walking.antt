@@ -5,7 +5,7 @@ use Rattle.std.proofs.lemmas.Nat.{le_or_r, or_lt}
 use Rattle.std.proofs.lemmas.Nat.Bits.{bit_at-suc, bit_at-trailing_zeros, bit_at_lowest, bit_at_or}
 use Rattle.std.specs.Int.{bit_at, trailing_zeros, w16}
 use Rattle.std.specs.Int.RustNames.{bit_or}
-use Rattle.gen1_outcomes.proofs.Parts.{moved}
+use Rattle.gen1_outcomes.proofs.Fractions.{moved}
 use Rattle.std.proofs.lemmas.List.{get_or_default, length-set}
 use Rattle.gen1_rolls.specs.declared.look.Look.TheVariants.{Below}
 use Rattle.gen1_layout.specs.Parts.{Parts}

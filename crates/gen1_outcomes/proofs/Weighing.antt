@@ -26,10 +26,9 @@ use Rattle.gen1_outcomes.specs.Nodes.{Adds, AllDone, GoesOn, IsChance, IsThen, L
 use Rattle.gen1_outcomes.specs.Weights.{AreEqual, Fraction, nothing, of_chance, plus, times}
 use Rattle.gen1_outcomes.proofs.Complete.{AreKnown, CanAsk, large_all, not_both, settled_not, step_as}
 use Rattle.gen1_outcomes.proofs.Fair.{IsFair, IsNewFor, fair_goes, fair_new, full_new, is_on, may_of, node_at}
-use Rattle.gen1_outcomes.proofs.Fractions.{equal-refl, equal-sym, equal-trans, plus-equal, scaled-equal, times-assoc, times-equal, times-unit}
+use Rattle.gen1_outcomes.proofs.Fractions.{equal-refl, equal-sym, equal-trans, plus-equal, scaled-equal, times-assoc, times-equal, times-unit, both_positive}
 use Rattle.gen1_outcomes.proofs.Levels.{AreFair, AreSame, IsClosed, IsFresh, Levels, after, count_at, levels_added, levels_as, levels_closed, levels_next, levels_put, levels_same, next_same, total_at, upto, upto-after, upto-same}
 use Rattle.gen1_outcomes.proofs.Logs.{entry_keeps}
-use Rattle.gen1_outcomes.proofs.Parts.{both_positive}
 use Rattle.gen1_outcomes.proofs.Walking.{at, some_node}
 
 -- Of the probability before them, the part of the draws before one.

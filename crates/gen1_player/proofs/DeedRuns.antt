@@ -41,8 +41,7 @@ use Rattle.gen1_player.specs.True.{is_fault, ActivesAgree, SideDoes, BothDo, IsT
 use Rattle.gen1_player.proofs.Conditions.{conditions_agree}
 use Rattle.gen1_player.proofs.Facts.{is_dull, sent, Fits, Sizes}
 use Rattle.gen1_player.proofs.Stories.{at_end, begun-member, Begun}
-use Rattle.gen1_player.proofs.ToldTurns.{fits-now, send_out-at, sent-begun, ChoiceFits}
-use Rattle.gen1_player.proofs.ToldEnds.{first-done, Fresh, choice-fits, sizes_of}
+use Rattle.gen1_player.proofs.ToldEnds.{fits-now, send_out-at, sent-begun, ChoiceFits, first-done, Fresh, choice-fits, sizes_of}
 use Rattle.gen1_player.proofs.Deeds.{loosely-apart, loosely-even, loosely-falls, loosely-quiet, Deeds, Lame, Loosely, current_of}
 use Rattle.gen1_player.proofs.DeedStory.{deeding, loose-told, tale-loosens, told_by, LooseTale, Tale}
 use Rattle.gen1_player.proofs.DeedGate.{at-field, at-note, at-stop, at-told, at-weak, In, Nothing_more}

@@ -57,7 +57,7 @@ use Rattle.gen1_player.proofs.Facts as facts
 use Rattle.gen1_player.proofs.Stories.{begun-active, begun-member, Begun, MayFall, Now, Switching}
 use Rattle.gen1_player.proofs.HeardSides.{hears-in, hears_all-last, switch-hears}
 use Rattle.gen1_player.proofs.ToldActions.{begin-tells}
-use Rattle.gen1_player.proofs.ToldTurns.{fits-now, or-left, or-right, send_out-tells, ChoiceFits}
+use Rattle.gen1_player.proofs.ToldEnds.{fits-now, or-left, or-right, send_out-tells, ChoiceFits}
 use Rattle.gen1_player.proofs.Deeds.{core, deeds, deeds_of, does-conditions, does-lame, even-conditions, even-hurt, even-loosely, even-member, even-quiet, hurt_to, lame-conditions, loosely-even, loosely-quiet, loosely-worse, pending-out, quiet-loosely, with_active, Bland, Deeds, Does, Even, Loosely}
 use Rattle.gen1_player.proofs.DeedStory.{deeding, even-before, quiet-settled, tale-active, tale-conditions, tells-next, told_by, LooseTale, Tale}
 use Rattle.gen1_player.proofs.DeedGate.{acted-tale, at-conditions, at-field, at-told, at-weak, dull-tale, opens-past, tale-opens, tale-past, zero-not, In, Nothing_more, Opens, Over, Past}

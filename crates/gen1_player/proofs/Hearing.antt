@@ -12,8 +12,7 @@ use Rattle.gen1_machine.specs.Sides.{other}
 use Rattle.gen1_machine.specs.View.{won_by}
 use Rattle.gen1_player.specs.declared.public.Public.{Public}
 use Rattle.gen1_player.specs.declared.public_side.PublicSide.{PublicSide}
-use Rattle.gen1_player.specs.Public.{acting, activates, begins, hears, if_seen_out, is_cleared, on_out, on_public_side, public_side, settled, settled_by, takes_in}
-use Rattle.gen1_player.specs.Sides.{foe_hears, side_begins, side_hears, side_named}
+use Rattle.gen1_player.specs.Public.{acting, activates, begins, hears, if_seen_out, is_cleared, on_out, on_public_side, public_side, settled, settled_by, takes_in, foe_hears, side_begins, side_hears, side_named}
 
 -- a change of a side, and one of its foe
 abbrev pub both : Side → (PublicSide → PublicSide) → (PublicSide → PublicSide) → Public → Public

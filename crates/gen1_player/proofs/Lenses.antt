@@ -22,8 +22,7 @@ use Rattle.gen1_player.specs.declared.public.Public.{Public}
 use Rattle.gen1_player.specs.declared.public_side.PublicSide.{PublicSide}
 use Rattle.gen1_player.specs.declared.seen.Seen.{Seen}
 use Rattle.gen1_player.specs.Player.{known_at}
-use Rattle.gen1_player.specs.Public.{asleep_after, bide, charges_up, comes_out, drops, ends_recharging, gets_status, has_fainted, hears, hears_all, if_seen_out, is_afflicted, is_cured, is_kept_by, is_overtaken, new_uses, not_seen, on_announced, on_seen, prepares, public_side, recharges_unless, rests_no_more, rises, seen_at, set_volatile, starts_bide, strikes, suffers_move, takes_damage, takes_types, uses_again, uses_move, is_kept, slept_after, slept_on, sleeps_on}
-use Rattle.gen1_player.specs.Sides.{foe_hears, side_begins, side_hears}
+use Rattle.gen1_player.specs.Public.{asleep_after, bide, charges_up, comes_out, drops, ends_recharging, gets_status, has_fainted, hears, hears_all, if_seen_out, is_afflicted, is_cured, is_kept_by, is_overtaken, new_uses, not_seen, on_announced, on_seen, prepares, public_side, recharges_unless, rests_no_more, rises, seen_at, set_volatile, starts_bide, strikes, suffers_move, takes_damage, takes_types, uses_again, uses_move, is_kept, slept_after, slept_on, sleeps_on, foe_hears, side_begins, side_hears}
 use Rattle.gen1_player.specs.True.{members_by, own_as_known, own_known, own_places}
 use Rattle.gen1_player.proofs.Facts.{side_out}
 

@@ -1,11 +1,7 @@
 -- What an event makes public, by the side that it names.
 pub mod Hearing
--- What numbers of HP say.
-pub mod HpForms
 -- An event as a side learns it, the log bytes of one side, and what becomes of a value to which events are applied.
 pub mod Retellings
--- What a side is shown of itself: its members by their places, and how many there are.
-pub mod OwnSides
 -- Offered choices from what is shown, and what is not shown.
 pub mod Fairness
 -- What is known of a battle by its events, phase by phase.
@@ -14,10 +10,7 @@ pub mod Stories
 pub mod ToldGate
 pub mod ToldEffects
 pub mod ToldActions
-pub mod ToldTurns
 pub mod ToldEnds
--- What is public agrees with what a spectator sees.
-pub mod Agreeing
 pub mod Placing
 -- What is public of types and conditions agrees with the battle.
 pub mod HeardSides
@@ -47,5 +40,3 @@ pub mod Sleepers
 pub mod Sleeping
 -- Worked examples.
 pub mod WorkedPlayers
--- A player that was fed log bytes, and the players of two battles that give a side the same.
-pub mod Players

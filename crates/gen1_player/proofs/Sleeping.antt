@@ -34,8 +34,7 @@ use Rattle.gen1_player.proofs.Stories.{MayFall, Now, Outline, Story, Switching, 
 use Rattle.gen1_player.proofs.ToldActions.{bide_goes_on-tells, charge-tells, current-tells, damage_of-tells, lead_up-tells, prelude-tells, resume-lands, see_if-tells, spend-tells, strike-tells}
 use Rattle.gen1_player.proofs.ToldEffects.{early_effect-tells, heals, late_effect-tells, lulls, may_poison_by, not-toxic, recover-tells, ruling_of-tells}
 use Rattle.gen1_player.proofs.ToldGate.{frozen-tells, gate_of_move-tells, gate_of_turn-tells, trapped-tells, wake-told, nods-tells, dozes-tells}
-use Rattle.gen1_player.proofs.ToldEnds.{story-runs}
-use Rattle.gen1_player.proofs.ToldTurns.{or-left}
+use Rattle.gen1_player.proofs.ToldEnds.{story-runs, or-left}
 use Rattle.gen1_player.specs.Public.{bide, comes_out, ends_recharging, first_public, has_fainted, hears_all, is_cleared, is_cured, may_rest, new_uses, not_seen, on_announced, on_out, on_public_side, on_seen, prepares, public_side, put_to_sleep_by, rests_no_more, seen_at, set_volatile, settled, starts_bide, suffers_move, takes_in, takes_types, uses_again, uses_move}
 use Rattle.gen1_player.specs.True.{AgreesWith, IsAsleepBy, SleepersAgree, events_in, public_of}
 use Rattle.gen1_player.specs.declared.public.Public.{Public}

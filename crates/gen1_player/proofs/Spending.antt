@@ -49,7 +49,7 @@ use Rattle.gen1_player.proofs.Facts.{Sizes}
 use Rattle.gen1_player.proofs.Stories.{at_end, begun-conditions, begun-member, draw-tells, mild-tells, stop-tells, MayFall, Now}
 use Rattle.gen1_player.proofs.ToldEffects.{early_effect-tells, late_effect-tells, may_poison_by, not-toxic, ruling_of-tells}
 use Rattle.gen1_player.proofs.ToldActions.{bide_goes_on-tells, carry_out-tells, current-tells, damage_of-tells, end_charge-tells, gate_or_held-tells, prelude-tells, resume-lands, see_if-tells, strike-tells}
-use Rattle.gen1_player.proofs.ToldTurns.{or-left}
+use Rattle.gen1_player.proofs.ToldEnds.{or-left}
 use Rattle.gen1_player.proofs.DeedMoves.{of-bide}
 use Rattle.gen1_player.proofs.HeardSides.{bide-hears, move-hears, out-side, prepare-hears}
 use Rattle.gen1_player.proofs.Appearing.{bide-number, face, faces, no_face, settled-faces, shows_use, suffers-same, Face, Faces}

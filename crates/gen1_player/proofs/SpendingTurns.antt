@@ -31,7 +31,7 @@ use Rattle.gen1_player.proofs.Facts.{Sizes}
 use Rattle.gen1_player.proofs.Facts as facts
 use Rattle.gen1_player.proofs.Stories.{conditions-tells, Begun, MayFall, Now}
 use Rattle.gen1_player.proofs.ToldActions.{begin-tells}
-use Rattle.gen1_player.proofs.ToldTurns.{end_turn-tells, replace-falls, residual-tells, send_out-tells, set_picked-tells, ChoiceFits}
+use Rattle.gen1_player.proofs.ToldEnds.{end_turn-tells, replace-falls, residual-tells, send_out-tells, set_picked-tells, ChoiceFits, close-done, first-done, Fresh, Waits, choice-fits, sizes_of}
 use Rattle.gen1_player.proofs.DeedGate.{at-weak, In, Nothing_more, Opens, Over, Past}
 use Rattle.gen1_player.proofs.DeedActs.{rests-leads, with-keeps, IdleIsQuiet}
 use Rattle.gen1_player.proofs.DeedMoves.{plain_story}
@@ -53,7 +53,6 @@ use Rattle.gen1_machine.proofs.RunsEnd.{offered-is}
 use Rattle.gen1_machine.proofs.ValidSteps.{opened-sure}
 use Rattle.gen1_player.specs.Public.{hears_all, not_seen, not_used, public_side, seen_at}
 use Rattle.gen1_player.specs.True.{events_in, move_in, pp_in, public_of, rise, rises, UsesArePaid}
-use Rattle.gen1_player.proofs.ToldEnds.{close-done, first-done, Fresh, Waits, choice-fits, sizes_of}
 use Rattle.gen1_player.proofs.Appearing.{face, no_face, Face}
 use Rattle.gen1_player.proofs.DeedStory.{deeding, LooseTale}
 use Rattle.gen1_player.proofs.DeedRuns.{asked-lives, faults-over, first-fits, first-ready, going-on, started-of, stays, step-deeds, tightened-tale, Goes, Opens as Begins, Ready, Told}

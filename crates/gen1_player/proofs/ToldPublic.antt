@@ -25,8 +25,7 @@ use Rattle.gen1_player.specs.declared.hp_form.HpForm.TheVariants.{Bar, Exact, Hu
 use Rattle.gen1_player.specs.declared.teller.Teller.{Teller}
 use Rattle.gen1_player.specs.declared.player.Player.{Player}
 use Rattle.gen1_player.specs.Player.{first_known}
-use Rattle.gen1_player.specs.Public.{acting, activates, broken_off_if, comes_out, first_public, has_fainted, has_hit_itself, hears, hears_all, if_seen_out, is_cleared, not_seen, on_out, public_side, seen_at, settled, settled_by, takes_in, uses_again}
-use Rattle.gen1_player.specs.Sides.{foe_hears, side_hears, side_named}
+use Rattle.gen1_player.specs.Public.{acting, activates, broken_off_if, comes_out, first_public, has_fainted, has_hit_itself, hears, hears_all, if_seen_out, is_cleared, not_seen, on_out, public_side, seen_at, settled, settled_by, takes_in, uses_again, foe_hears, side_hears, side_named}
 use Rattle.gen1_player.specs.Telling.{appears, form_of, health_for, health_told, is_own, meets, meets_all, slot_of, told, told_all, told_in}
 use Rattle.gen1_player.specs.True.{as_known, events_in, first_teller, foe_as_told, foe_known, own_as_known, own_known, team_of, with_hp_told, PlayerHolds}
 use Rattle.gen1_player.proofs.Facts.{side_out}

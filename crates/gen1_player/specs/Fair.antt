@@ -21,8 +21,7 @@ use Rattle.gen1_machine.specs.OfferedChoices.{offered, or_struggle}
 use Rattle.gen1_machine.specs.Sides.{other}
 use Rattle.gen1_machine.specs.State.{Active, Field, Party, State, Terms, first_state, is_over, party, underway_in, with_party}
 use Rattle.gen1_machine.specs.Step.{Stepped, events_of, step, run}
-use Rattle.gen1_player.specs.OwnSide.{OwnActive, OwnConditions, OwnMember, OwnSide, own_side}
-use Rattle.gen1_player.specs.PlainOwnSide.{no_member, plain_side}
+use Rattle.gen1_player.specs.OwnSide.{OwnActive, OwnConditions, OwnMember, OwnSide, own_side, no_member, plain_side}
 use Rattle.std.specs.List.{flat_map}
 use Rattle.gen1_machine.specs.LogBytes.{codes_of}
 use Rattle.gen1_player.specs.declared.player.Player.{Player}

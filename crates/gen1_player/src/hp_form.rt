@@ -68,7 +68,7 @@ fn in_parts(hp: u16, parts: u16, kind: Option<Kind>) -> Health
     }
 }
 
-#[tactic(auto, using(crate::proofs::HpForms::bar_few))]
+#[tactic(auto, using(crate::proofs::Retellings::bar_few))]
 fn bar(hp: u16, max: u16) -> u16
     requires few { hp ≤ max }
     requires low { 11 ≤ max }

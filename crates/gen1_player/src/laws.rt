@@ -22,7 +22,7 @@ pub fn hides_the_counts()
 {}
 
 /// In each form of HP, the number is 0 exactly of a member without HP, and else allows an interval that contains its HP.
-#[tactic(auto, using(crate::proofs::HpForms::tells_hp))]
+#[tactic(auto, using(crate::proofs::Retellings::tells_hp))]
 pub fn tells_hp()
     ensures { TellsHp }
 {}

@@ -6,8 +6,7 @@ ghost use Rattle.gen1_machine.specs.Layout.{number_of_bits};
 ghost use Rattle.gen1_machine.specs.LogBytes.{kind_or_0};
 ghost use Rattle.gen1_machine.specs.Rules.{bit_of};
 ghost use Rattle.gen1_machine.specs.State.{State, kind_of};
-ghost use Rattle.gen1_player.specs.OwnSide.{own_active, own_conditions, own_member, own_side};
-ghost use Rattle.gen1_player.specs.PlainOwnSide.{IsListed, IsListedMember, is_present, nobody_out, plain_active, plain_member, plain_out, plain_side, shown_bits};
+ghost use Rattle.gen1_player.specs.OwnSide.{IsListed, IsListedMember, is_present, nobody_out, own_active, own_conditions, own_member, own_side, plain_active, plain_member, plain_out, plain_side, shown_bits};
 
 use bitflags::Flags;
 use gen1_layout::{Conditions, Packed, byte_of_outcome, byte_of_request};

@@ -2,8 +2,7 @@
 ghost use Rattle.std.specs.Prelude.{None, Some, ◌≡◌};
 ghost use Rattle.gen1_machine.specs.Layout.{outcome_byte};
 ghost use Rattle.gen1_machine.specs.View.{won_by};
-ghost use Rattle.gen1_player.specs.Public.{acting, activates, first_public, has_hit_itself, hears, public_side, settled_by, takes_in, waiting_for};
-ghost use Rattle.gen1_player.specs.Sides.{side_named};
+ghost use Rattle.gen1_player.specs.Public.{acting, activates, first_public, has_hit_itself, hears, public_side, settled_by, side_named, takes_in, waiting_for};
 
 use crate::public_side::PublicSide;
 use gen1_machine::{DamageSource, Event, Side, Volatile};

@@ -2,8 +2,7 @@
 ghost use Rattle.std.specs.Prelude.{◌≡◌, ◌≤◌};
 ghost use Rattle.gen1_tables.specs.Effects.{hides};
 ghost use Rattle.gen1_machine.specs.LogBytes.{kind_or_0};
-ghost use Rattle.gen1_player.specs.Public.{comes_out, ends_recharging, first_public_side, if_seen_out, is_cleared, is_going_on, may_go_on, new_uses, on_seen, prepares, reach_after, seen_at, strikes, suffers_move, takes_damage, uses_move, uses_times};
-ghost use Rattle.gen1_player.specs.Sides.{foe_hears, seen_or_none, side_begins, side_hears};
+ghost use Rattle.gen1_player.specs.Public.{comes_out, ends_recharging, first_public_side, foe_hears, if_seen_out, is_cleared, is_going_on, may_go_on, new_uses, on_seen, prepares, reach_after, seen_at, seen_or_none, side_begins, side_hears, strikes, suffers_move, takes_damage, uses_move, uses_times};
 
 use crate::announced::Announced;
 use crate::seen::Seen;

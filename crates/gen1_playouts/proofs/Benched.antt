@@ -12,7 +12,7 @@ use Rattle.gen1_layout.specs.Within.{Stands}
 use Rattle.gen1_offers.specs.declared.bench.Bench.{Bench}
 use Rattle.gen1_offers.specs.Bench.{Follows, IsBench}
 use Rattle.gen1_playouts.specs.Playouts.{played}
-use Rattle.gen1_playouts.proofs.Accepting.{Accepts}
+use Rattle.gen1_playouts.proofs.Offers.{Accepts}
 use Rattle.gen1_playouts.proofs.Following.{both-follow}
 use Rattle.gen1_playouts.proofs.Playing.{PlaysOn}
 

@@ -1,6 +1,6 @@
 -- While a battle continues, each side is offered something.
 use Rattle.std.proofs.Common.{Bool, List, [], ap, arith, false, get_or, inl, inr, length, length-append, not, refl, subst, suc, sym, true, zero, ℕ, ◌&&◌, ◌++◌, ◌+◌, ◌-◌, ◌<◌, ◌==◌, ◌||◌, ◌∙◌, ◌∷◌, ◌≡◌, ◌≢◌, ◌≤◌, ◌⊎◌}
-use Rattle.std.specs.Prelude.{if◌then◌else◌}
+use Rattle.std.specs.Prelude.{if◌then◌else◌, cond, count_by}
 use Rattle.std.proofs.lemmas.Bool.{false≢true}
 use Rattle.std.proofs.lemmas.Bool.Decides.{eqb_tells}
 use Rattle.gen1_tables.specs.Types.{any}
@@ -8,14 +8,21 @@ use Rattle.gen1_stats.specs.Members.{Member, is_living, nobody}
 use Rattle.gen1_machine.specs.declared.side.Side.{Side}
 use Rattle.gen1_machine.specs.declared.side.Side.TheVariants.{One, Two}
 use Rattle.gen1_machine.specs.declared.choice.Choice.{Choice}
-use Rattle.gen1_machine.specs.declared.choice.Choice.TheVariants as choices
 use Rattle.gen1_machine.specs.declared.terms.Outcome.{Outcome}
-use Rattle.gen1_machine.specs.declared.terms.Outcome.TheVariants as outcomes
-use Rattle.gen1_machine.specs.declared.terms.Request.TheVariants as requests
 use Rattle.gen1_machine.specs.OfferedChoices.{has_no_slot_in, is_committed, moves_offered, offered, offered_for, or_struggle, others_living_from, switches_offered, usable_from}
 use Rattle.gen1_machine.specs.State.{Field, State, Terms, active_in, conditions_in, has_fallen_in, is_over, member_in, party, request_of, underway_in}
-use Rattle.gen1_machine.specs.Step.{is_among, same_choice}
+use Rattle.gen1_machine.specs.Step.{is_among, same_choice, Answer, Ran, run, run_by, step}
 use Rattle.gen1_machine.specs.Valid.{IsAsked, IsStarted, IsState, IsUnstarted, StandsAs, lives_in}
+use Rattle.std.proofs.lemmas.List.Sums.{sum_by_push}
+use Rattle.gen1_machine.specs.Laws.{accepted_in, is_accepted}
+use Rattle.gen1_machine.proofs.Runs.{runs_append}
+use Rattle.gen1_layout.specs.Parts.{Parts}
+use Rattle.gen1_layout.specs.Shows.{Telling}
+use Rattle.gen1_layout.specs.Within.{Stands}
+use Rattle.gen1_switching.specs.Updates.{Steps}
+use Rattle.gen1_machine.specs.declared.choice.Choice.TheVariants as choices
+use Rattle.gen1_machine.specs.declared.terms.Outcome.TheVariants as outcomes
+use Rattle.gen1_machine.specs.declared.terms.Request.TheVariants as requests
 
 -- lists that are not empty
 
@@ -158,3 +165,30 @@ pub among-at : (xs : List Choice) (k : ℕ) (d : Choice) → k < length xs → i
 among-at [] k d inside = absurd (omega (arith, inside))
 among-at (x ∷ xs) zero d inside = rw (same-itself x) refl
 among-at (x ∷ xs) (suc k) d inside = or-yes (same_choice (get_or xs k d) x) (among-at xs k d (omega (arith, inside)))
+
+-- Pairs that were accepted, one after the other.
+
+-- that many pairs were accepted from s, and the battle represents the state that they lead to
+pub record Accepts (s : State) (count : ℕ) (battle : Parts) : Type 0 where
+  pub pairs : List (Choice × Choice)
+  pub stands : Stands battle (run s pairs).state
+  pub counted : accepted_in s pairs ≡ count
+
+unfoldable pub accepts-none : (s : State) {battle : Parts} → Stands battle s → Accepts s 0 battle
+unfolding run_by
+accepts-none s stands = record { pairs = []; stands = stands; counted = refl }
+
+unfoldable pub accepts-more : {s : State} {count : ℕ} {old new : Parts} {events : Telling} (one two : Choice) (h : Accepts s count old)
+    → Steps (run s h.pairs).state one two new events → Accepts s (count + 1) new
+unfolding run_by
+accepts-more {s = s} {new = new} one two h steps =
+    let before = (run s h.pairs).answers in
+    let last = step (run s h.pairs).state one two in
+    let ran : run s (h.pairs ++ (one, two) ∷ []) ≡ record { answers = before ++ last.answer ∷ []; state = last.state } = runs_append s h.pairs ((one, two) ∷ []) in
+    record {
+      pairs = h.pairs ++ (one, two) ∷ [];
+      stands = subst (λ (r : Ran). Stands new r.state) (sym ran) steps.stands;
+      counted =
+          ap (λ (r : Ran). count_by is_accepted r.answers) ran ∙ sum_by_push (λ (a : Answer). cond (is_accepted a) 1 0) before last.answer
+          ∙ ap (λ (b : Bool). count_by is_accepted before + cond b 1 0) (ap is_accepted steps.answers) ∙ ap (λ (n : ℕ). n + 1) h.counted;
+    }

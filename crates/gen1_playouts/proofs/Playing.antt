@@ -1,6 +1,6 @@
 -- A battle that is played by random choices, update by update.
-use Rattle.std.proofs.Common.{Bool, List, [], ap, arith, inl, inr, min, refl, sym, subst, suc, true, false, zero, ℕ, length, ◌+◌, ◌-◌, ◌/◌, ◌%◌, ◌^◌, ◌∙◌, ◌≡◌, ◌≤◌, ◌⊎◌}
-use Rattle.std.specs.Prelude.{None, Option, Some, if◌then◌else◌}
+use Rattle.std.proofs.Common.{Bool, List, [], ap, arith, inl, inr, min, refl, sym, subst, suc, true, false, zero, ℕ, length, ◌+◌, ◌-◌, ◌/◌, ◌%◌, ◌^◌, ◌∙◌, ◌≡◌, ◌≤◌, ◌⊎◌, ◌∷◌, take, ◌++◌, ◌<◌}
+use Rattle.std.specs.Prelude.{None, Option, Some, if◌then◌else◌, slice_set}
 use Rattle.std.proofs.Math.Nat.{mod-lt}
 use Rattle.gen1_rolls.specs.Streams.{iterate}
 use Rattle.gen1_rolls.proofs.Period.{iterate-add}
@@ -8,7 +8,6 @@ use Rattle.gen1_rolls.proofs.Standing.{iterate-more}
 use Rattle.gen1_machine.specs.declared.choice.Choice.{Choice}
 use Rattle.gen1_machine.specs.declared.side.Side.{Side}
 use Rattle.gen1_machine.specs.declared.side.Side.TheVariants.{One, Two}
-use Rattle.gen1_machine.specs.declared.terms.Request.TheVariants as requests
 use Rattle.gen1_machine.specs.OfferedChoices.{offered, offered_for}
 use Rattle.gen1_machine.specs.State.{Field, State, is_over, request_of}
 use Rattle.gen1_machine.specs.Step.{is_among, offers, step}
@@ -21,9 +20,16 @@ use Rattle.gen1_offers.specs.OfferedMask.{choices_in, offered_mask}
 use Rattle.gen1_switching.specs.Updates.{Steps}
 use Rattle.gen1_offers.proofs.BetweenUpdates.{asks_nothing}
 use Rattle.gen1_offers.proofs.MaskChoices.{offered_chosen}
-use Rattle.gen1_playouts.specs.Playouts.{IsDrawn, IsZeros, Playout, drawn_from, end_in, most_updates, next_state, play_on, played, weight_in, weighted}
+use Rattle.gen1_playouts.specs.Playouts.{IsDrawn, IsZeros, Playout, drawn_from, end_in, most_updates, next_state, play_on, played, weight_in, weighted, IsRound, MayEndAs, PlaysOut, Tally, counting, no_counts, one_more, tally, IsPlayedOut, Numbers, begun, numbers_from, one_number}
 use Rattle.gen1_playouts.proofs.Offers.{offers-some}
 use Rattle.gen1_playouts.proofs.Weighing.{among-weighted, only-drawn, weighted-not_empty, zeros-weighted}
+use Rattle.gen1_machine.specs.declared.terms.Outcome.{Outcome}
+use Rattle.gen1_playouts.specs.declared.playouts.Playouts.{Playouts}
+use Rattle.gen1_playouts.specs.declared.playouts.PlayoutOptions.{PlayoutOptions}
+use Rattle.std.proofs.lemmas.List.{take_more_set}
+use Rattle.gen1_rolls.specs.Link.{Ring, ring_of}
+use Rattle.gen1_engine.specs.Reseed.{reseeded}
+use Rattle.gen1_machine.specs.declared.terms.Request.TheVariants as requests
 
 -- a choice drawn from the mask of a battle that continues is drawn among the offered choices, and so is offered
 
@@ -160,3 +166,63 @@ most-either limit (Some depth) = by (either (limit + 11) depth)
         → (min (limit + 11) depth ≡ limit + 11) ⊎ (Some depth ≡ Some (min (limit + 11) depth))
     by (inl e) = inl e
     by (inr e) = inr (ap (λ (n : ℕ). Some n) (sym e))
+
+-- Playouts, one after the other.
+
+pub plays-none : (o : PlayoutOptions) (s : State) (counts : Playouts) → counts ≡ no_counts → PlaysOut o s 0 counts
+plays-none o s counts none = record { exact = none; ends = []; each = tt; many = refl; counted = none }
+
+tells-one : (o : PlayoutOptions) (s : State) (t : Tally) {end : Outcome} {random : ℕ} → IsRound o s t.random end random
+    → one_more o s t ≡ record { counts = counting end t.counts; random = random }
+unfolding one_more
+tells-one o s t ended = rw (ended.0, ended.1) refl
+
+pub plays-more : {o : PlayoutOptions} {s : State} {rounds before random : ℕ} {old new : Playouts} {end : Outcome}
+    → PlaysOut o s rounds old → before ≡ (tally o s rounds).random → MayEndAs o.depth s end → IsRound o s before end random
+    → new ≡ counting end old → PlaysOut o s (rounds + 1) new × (random ≡ (tally o s (rounds + 1)).random)
+plays-more {o = o} {s = s} {rounds = rounds} {random = random} {end = end} so_far at ends played is =
+    let t = tally o s rounds in
+    let next : tally o s (rounds + 1) ≡ record { counts = counting end t.counts; random = random } =
+    iterate-more (one_more o s) rounds (record { counts = no_counts; random = o.seed })
+    ∙ tells-one o s t (subst (λ (state : ℕ). IsRound o s state end random) at played) in (
+      record {
+        exact = is ∙ ap (counting end) so_far.exact ∙ sym (ap (λ (t : Tally). t.counts) next);
+        ends = end ∷ so_far.ends;
+        each = (ends, so_far.each);
+        many = omega (arith, so_far.many);
+        counted = is ∙ ap (counting end) so_far.counted;
+      },
+      sym (ap (λ (t : Tally). t.random) next),
+    )
+
+-- Numbers that are drawn one after the other, and a round that begins with ten of them.
+
+draws-one : (n : Numbers) {drawn : List ℕ} {before after number : ℕ} → drawn ≡ n.drawn → before ≡ n.random
+    → number ≡ next_state before / 2 ^ 32 % 256 → after ≡ next_state before
+    → one_number n ≡ record { drawn = drawn ++ number ∷ []; random = after }
+unfolding one_number
+draws-one n drawn at is new = rw (is, new, at, drawn) refl
+
+pub draws-more : (seed count : ℕ) {before after number : ℕ} (numbers : List ℕ) → count < length numbers
+    → take count numbers ≡ (numbers_from seed count).drawn → before ≡ (numbers_from seed count).random
+    → number ≡ next_state before / 2 ^ 32 % 256 → after ≡ next_state before
+    → (take (count + 1) (slice_set numbers count number) ≡ (numbers_from seed (count + 1)).drawn) × (after ≡ (numbers_from seed (count + 1)).random)
+draws-more seed count {after = after} {number = number} numbers inside drawn at is new =
+    let next : numbers_from seed (count + 1) ≡ record { drawn = take count numbers ++ number ∷ []; random = after } =
+    iterate-more one_number count (record { drawn = []; random = seed }) ∙ draws-one (numbers_from seed count) drawn at is new in (
+      take_more_set numbers count number inside ∙ sym (ap (λ (n : Numbers). n.drawn) next),
+      sym (ap (λ (n : Numbers). n.random) next),
+    )
+
+-- a round
+
+pub begins-with : {old new : Parts} {s : State} {ring : Ring} {numbers : List ℕ} → ring ≡ ring_of numbers
+    → (Stands old s → Stands new (reseeded ring s)) → Stands old s → Stands new (reseeded (ring_of numbers) s)
+begins-with {new = new} {s = s} is reseeds stands = subst (λ (r : Ring). Stands new (reseeded r s)) is (reseeds stands)
+
+pub plays-round : (o : PlayoutOptions) (s : State) (seed : ℕ) {after random : ℕ} {numbers : List ℕ} {end : Outcome} → numbers ≡ (numbers_from seed 10).drawn
+    → after ≡ (numbers_from seed 10).random → IsPlayedOut o (reseeded (ring_of numbers) s) after end random → IsRound o s seed end random
+unfolding begun
+plays-round o s seed {random = random} {numbers = numbers} {end = end} drawn at played =
+    subst (λ (given : List ℕ). IsPlayedOut o (reseeded (ring_of given) s) (numbers_from seed 10).random end random) drawn
+    (subst (λ (state : ℕ). IsPlayedOut o (reseeded (ring_of numbers) s) state end random) at played)

@@ -1,5 +1,5 @@
 -- Choices of a mask, each as often as its weight says.
-use Rattle.std.proofs.Common.{List, [], ap, arith, drop, get_or, inl, inr, length, length-append, map, refl, sym, true, ℕ, ◌%◌, ◌*◌, ◌++◌, ◌+◌, ◌-◌, ◌/◌, ◌<◌, ◌^◌, ◌∙◌, ◌∷◌, ◌≡◌, ◌≢◌, ◌≤◌, ◌⊎◌}
+use Rattle.std.proofs.Common.{List, [], ap, arith, drop, get_or, inl, inr, length, length-append, map, refl, sym, true, ℕ, ◌%◌, ◌*◌, ◌++◌, ◌+◌, ◌-◌, ◌/◌, ◌<◌, ◌^◌, ◌∙◌, ◌∷◌, ◌≡◌, ◌≢◌, ◌≤◌, ◌⊎◌, suc}
 use Rattle.std.specs.Prelude.{replicate}
 use Rattle.std.proofs.lemmas.Bool.{cases_eq, cases_lt}
 use Rattle.std.proofs.lemmas.List.{drop-drop, drop_more, get_or-append_right, get_or-drop, get_or-map, get_or-replicate, get_or_append_left, length-drop, length-replicate}
@@ -7,13 +7,16 @@ use Rattle.std.proofs.Math.Nat.{mod-lt}
 use Rattle.gen1_machine.specs.declared.choice.Choice.{Choice}
 use Rattle.gen1_machine.specs.declared.choice.Choice.TheVariants.{Move, Pass, Switch}
 use Rattle.gen1_machine.specs.declared.side.Side.{Side}
-use Rattle.gen1_machine.specs.State.{Field}
+use Rattle.gen1_machine.specs.State.{Field, Party, member_at}
 use Rattle.gen1_machine.specs.Step.{is_among, same_choice}
 use Rattle.gen1_offers.specs.OfferedMask.{all_choices, chosen_by}
 use Rattle.gen1_offers.proofs.MaskChoices.{chosen-even, chosen-odd}
 use Rattle.gen1_offers.proofs.OfferedSet.{other_number}
-use Rattle.gen1_playouts.specs.Playouts.{IsZeros, choice_by, repeated, weight_in, weighted}
+use Rattle.gen1_playouts.specs.Playouts.{IsZeros, choice_by, repeated, weight_in, weighted, hp_left, hp_unhurt, leader, leading, sum_in}
 use Rattle.gen1_playouts.proofs.Offers.{among-at, or-yes}
+use Rattle.gen1_stats.specs.Members.{Member}
+use Rattle.gen1_machine.specs.declared.side.Side.TheVariants.{One, Two}
+use Rattle.gen1_machine.specs.declared.terms.Outcome.{Outcome}
 
 -- digit by digit
 
@@ -222,3 +225,15 @@ weighted-not_empty weight choices some = by (cases_eq (length (repeated weight c
     by : (length (repeated weight choices) ≡ 0) ⊎ (length (repeated weight choices) ≢ 0) → 1 ≤ length (weighted weight choices)
     by (inl none) = let long = ap length (weighted-none weight choices none) in omega (arith, some, long)
     by (inr copies) = let long = ap length (weighted-some weight choices copies) in omega (arith, copies, long)
+
+-- The HP of two sides, compared.
+
+pub sums-more : (number : Member → ℕ) (t : Party) (places : ℕ) {sum one : ℕ} → sum ≡ sum_in number places t → one ≡ number (member_at (places + 1) t)
+    → sum + one ≡ sum_in number (places + 1) t
+sums-more number t places is one =
+    let e : places + 1 ≡ suc places = omega arith in rw (is, one) (ap (λ (n : ℕ). sum_in number n t) (sym e))
+
+pub leads : (f : Field) {left_one left_two unhurt_one unhurt_two : ℕ} {end : Outcome} → left_one ≡ hp_left One f → left_two ≡ hp_left Two f
+    → unhurt_one ≡ hp_unhurt One f → unhurt_two ≡ hp_unhurt Two f → end ≡ leading (left_one * unhurt_two) (left_two * unhurt_one) → end ≡ leader f
+unfolding leader
+leads f first second third fourth is = is ∙ rw (first, second, third, fourth) refl

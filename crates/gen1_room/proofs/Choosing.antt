@@ -13,8 +13,7 @@ use Rattle.gen1_engine.specs.declared.result.BattleResult.{BattleResult}
 use Rattle.gen1_engine.specs.Update.{AreOffered, result_of}
 use Rattle.gen1_room.specs.declared.held.Held.{Held}
 use Rattle.gen1_room.specs.Rooms.{chosen_in, ended, Holds, submission_of}
-use Rattle.gen1_room.proofs.Offers.{chosen_offered, same_itself}
-use Rattle.gen1_room.proofs.Rooms.{chosen_more, ended_none, holds_refused, or_else}
+use Rattle.gen1_room.proofs.Rooms.{chosen_offered, same_itself, chosen_more, ended_none, holds_refused, or_else}
 
 pub next_differs : (n : ℕ) → (n + 1 == n) ≡ false
 next_differs n = grind (arith, nat_tests)

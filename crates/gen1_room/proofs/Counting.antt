@@ -1,26 +1,41 @@
 -- The number of pairs: it is in range, since fewer are left with each.
-use Rattle.std.proofs.Common.{Bool, List, [], ap, arith, false, inl, inr, length, refl, subst, suc, sym, true, zero, ℕ, ◌&&◌, ◌+◌, ◌-◌, ◌<◌, ◌==◌, ◌≡◌, ◌≢◌, ◌≤◌, ◌∷◌}
+use Rattle.std.proofs.Common.{ap, false, refl, ◌≡◌, Bool, List, [], arith, inl, inr, length, subst, suc, sym, true, zero, ℕ, ◌&&◌, ◌+◌, ◌-◌, ◌<◌, ◌==◌, ◌≢◌, ◌≤◌, ◌∷◌}
+use Rattle.gen1_machine.specs.declared.side.Side.TheVariants.{One, Two}
+use Rattle.gen1_machine.specs.declared.choice.Choice.{Choice}
+use Rattle.gen1_machine.specs.Progress.{Progress}
+use Rattle.gen1_machine.specs.Ruling.{ruling_of}
+use Rattle.gen1_machine.specs.State.{is_over, State, Active, Party}
+use Rattle.gen1_machine.specs.Step.{Accepted, answered, opened, step, step_by, update, Stepped}
+use Rattle.gen1_engine.specs.Update.{AreOffered}
+use Rattle.gen1_engine.proofs.Making.{goes_on}
 use Rattle.std.specs.Prelude.{if◌then◌else◌, max}
 use Rattle.std.proofs.lemmas.Bool.Decides.{nat_tests}
 use Rattle.gen1_stats.specs.Members.{is_living, Member}
-use Rattle.gen1_machine.specs.declared.side.Side.TheVariants.{One, Two}
-use Rattle.gen1_machine.specs.declared.choice.Choice.{Choice}
-use Rattle.gen1_machine.specs.declared.choice.Choice.TheVariants as choices
 use Rattle.gen1_machine.specs.declared.terms.Request.{Request}
-use Rattle.gen1_machine.specs.declared.terms.Request.TheVariants as requests
 use Rattle.gen1_machine.specs.OfferedChoices.{others_living_from}
 use Rattle.gen1_machine.specs.Room.{Course}
-use Rattle.gen1_machine.specs.State.{Active, Party, State, is_over}
-use Rattle.gen1_machine.specs.Step.{Stepped}
 use Rattle.gen1_machine.specs.Valid.{IsStarted, IsState, IsUnstarted}
 use Rattle.gen1_machine.proofs.Bench.{alive, bench, bench-most, living, living_but}
 use Rattle.gen1_machine.proofs.RunsEnd.{due, left, left_by, state-ready, step-lower, Lower}
 use Rattle.gen1_layout.specs.Parts.{Parts}
 use Rattle.gen1_layout.specs.Within.{Stands}
-use Rattle.gen1_engine.specs.Update.{AreOffered}
 use Rattle.gen1_room.specs.declared.held.Held.{Held}
 use Rattle.gen1_room.specs.Rooms.{Counts, ended, Holds, is_replaced, on_bench, pairs_left}
-use Rattle.gen1_room.proofs.Steps.{made, step_accepts}
+use Rattle.gen1_machine.specs.declared.choice.Choice.TheVariants as choices
+use Rattle.gen1_machine.specs.declared.terms.Request.TheVariants as requests
+
+-- Updates by offered choices, and what an accepted update left.
+
+-- what an accepted update does
+abbrev pub made : State → Choice → Choice → Progress
+made s one two = update (ruling_of s.terms) one two (opened s)
+
+pub step_accepts : (s : State) (one two : Choice) → AreOffered s one two
+    → step s one two ≡ record { answer = Accepted (made s one two).events; state = record s { field = (made s one two).field; drawn = (made s one two).drawn } }
+unfolding step step_by answered
+step_accepts s one two h =
+    let going : is_over s.field.outcome ≡ false = ap is_over (goes_on s One one h.first) in
+    rw (going, h.first, h.second) refl
 
 -- What is left of a battle, in the words of the machine's own proof
 

@@ -29,9 +29,8 @@ use Rattle.gen1_engine.specs.Reseed.{reseeded}
 use Rattle.gen1_engine.specs.Update.{Answers, AnswersAs, AreOffered, result_of, Tells, TellsAs}
 use Rattle.gen1_room.specs.declared.held.Held.{Held}
 use Rattle.gen1_room.specs.Rooms.{Counts, ended, Holds, IsRoom, Opens, reseeded_in}
-use Rattle.gen1_room.proofs.Counting.{counts_none, counts_pair}
+use Rattle.gen1_room.proofs.Counting.{counts_none, counts_pair, made, step_accepts}
 use Rattle.gen1_engine.proofs.Making.{goes_on, unstarted_at}
-use Rattle.gen1_room.proofs.Steps.{made, step_accepts}
 use Rattle.gen1_room.proofs.Choosing.{and_false}
 
 abbrev pub pass_for : Request → Option Choice

@@ -1,8 +1,5 @@
--- Updates, and what they return.
-pub mod Steps
 -- One more submission: what it does to the choices that are there, and to the course.
 pub mod Rooms
-pub mod Offers
 pub mod Choosing
 -- The number of pairs.
 pub mod Counting
@@ -10,6 +7,5 @@ pub mod Counting
 pub mod Ending
 -- Plain rooms.
 pub mod PlainRooms
--- Submissions one after the other.
 -- The laws of replies.
 pub mod Blind

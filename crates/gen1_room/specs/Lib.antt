@@ -1,7 +1,5 @@
 -- What a room holds and replies, in the machine's terms.
 pub mod Rooms
--- A room as a plain struct.
-pub mod Plain
 -- Rooms that a side has forfeited.
 pub mod Forfeits
 -- What replies reveal about choices.

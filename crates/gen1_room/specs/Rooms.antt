@@ -1,12 +1,12 @@
 -- What a room holds and replies, in the machine's terms (docs/MECHANICS.md, "Rooms").
-use Rattle.std.specs.Prelude.{Bool, Err, List, None, Ok, Option, Result, Some, false, if◌then◌else◌, length, max, true, ℕ, ◌+◌, ◌-◌, ◌≡◌, ◌≤◌, ◌⊎◌}
+use Rattle.std.specs.Prelude.{Bool, Err, List, None, Ok, Option, Result, Some, false, if◌then◌else◌, length, max, true, ℕ, ◌+◌, ◌-◌, ◌≡◌, ◌≤◌, ◌⊎◌, [], is_some, take}
 use Rattle.gen1_rolls.specs.Link.{Ring}
 use Rattle.gen1_machine.specs.declared.side.Side.{Side}
 use Rattle.gen1_machine.specs.declared.side.Side.TheVariants.{One, Two}
 use Rattle.gen1_machine.specs.declared.choice.Choice.{Choice}
 use Rattle.gen1_machine.specs.declared.terms.Request.{Request}
 use Rattle.gen1_machine.specs.declared.terms.Request.TheVariants.{Switch}
-use Rattle.gen1_machine.specs.OfferedChoices.{others_living_from}
+use Rattle.gen1_machine.specs.OfferedChoices.{others_living_from, offered}
 use Rattle.gen1_machine.specs.Room.{after, AlreadyChosen, Advanced, begun, choice_made, ChoiceNotOffered, chosen, Course, ended_by, Reply, reply_to, RoomOver, RoomRefusal, Stale, Submission, TurnedAway, Waiting}
 use Rattle.gen1_machine.specs.State.{active_in, Field, is_over, party, State}
 use Rattle.gen1_machine.specs.Step.{events_of}
@@ -18,8 +18,10 @@ use Rattle.gen1_engine.specs.Reseed.{reseeded}
 use Rattle.gen1_engine.specs.Update.{AreOffered}
 use Rattle.gen1_room.specs.declared.held.Held.{Held}
 use Rattle.gen1_room.specs.declared.reply.Submitted.{Submitted}
-use Rattle.gen1_room.specs.declared.reply.Submitted.TheVariants as submitted
 use Rattle.gen1_room.specs.declared.reply.RoomRefusal.{RoomRefusal as Why}
+use Rattle.gen1_machine.specs.Choices.{choice_at}
+use Rattle.gen1_room.specs.declared.plain.PlainRoom.{PlainRoom}
+use Rattle.gen1_room.specs.declared.reply.Submitted.TheVariants as submitted
 use Rattle.gen1_room.specs.declared.reply.RoomRefusal.TheVariants as whys
 
 -- Switches to the living members of a side that are not out. Before the start the first one counts as out, since it comes out first.
@@ -118,3 +120,30 @@ Takes old new result submission = (c : Course) → Holds old c → Holds new (af
 -- A course with other numbers for its battle to draw.
 abbrev pub reseeded_in : Ring → Course → Course
 reseeded_in ring c = record c { state = reseeded ring c.state }
+
+-- A room as a plain struct, in the machine's terms (docs/MECHANICS.md, "Rooms").
+
+-- what it holds: the log is the prefix of its buffer, and a byte that is not a choice is a choice that is missing
+abbrev pub held_of : PlainRoom → Held
+held_of r = record {
+  battle = r.battle;
+  number = r.number;
+  events = record { items = [] };
+  log = record { items = take r.log_length r.log };
+  one = choice_at r.one;
+  two = choice_at r.two;
+}
+
+-- it holds a course, as a room does, and no side has forfeited
+pub record Keeps (r : PlainRoom) (c : Course) : Type 0 where
+  pub holds : Holds (held_of r) c
+  pub unforfeited : r.forfeit ≡ 0
+
+-- a missing choice is 255, and not another byte that is not a choice
+pub record IsMarked (r : PlainRoom) : Type 0 where
+  pub one : choice_at r.one ≡ None → r.one ≡ 255
+  pub two : choice_at r.two ≡ None → r.two ≡ 255
+
+-- what a side may submit: nothing if its choice is there
+abbrev pub due : Side → Course → List Choice
+due side c = if is_some (chosen side c) then [] else offered side c.state.field

@@ -1,7 +1,5 @@
 -- While a battle continues, each side is offered something.
 pub mod Offers
--- Pairs that were accepted, one after the other.
-pub mod Accepting
 -- What a viewer has shown, event by event.
 pub mod Viewing
 -- The calls of a battle, one after the other.

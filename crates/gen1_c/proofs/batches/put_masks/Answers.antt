@@ -2,7 +2,7 @@ use Rattle.std.proofs.Common.{ap, arith, length, subst, sym, take, ℕ, ◌<◌,
 use Rattle.std.proofs.Math.Seq.{take-length}
 use Rattle.gen1_layout.specs.Parts.{Parts}
 use Rattle.gen1_layout.specs.Within.{Stands}
-use Rattle.gen1_c.proofs.OneByOne.{masks_more}
+use Rattle.gen1_c.proofs.Updates.{masks_more}
 use Rattle.gen1_c.proofs.batches.put_masks.Goals as goal
 
 pub loop-place-init : goal.loop-place-init

@@ -1,7 +1,7 @@
 use Rattle.std.proofs.Common.{arith, length, refl, ◌<◌}
 use Rattle.std.specs.Prelude.{slice_index_or}
 use Rattle.gen1_c.specs.declared.batches.BatchUpdate.{BatchUpdate}
-use Rattle.gen1_c.proofs.OneByOne.{left_more, updated_here, updated_more}
+use Rattle.gen1_c.proofs.Updates.{left_more, updated_here, updated_more}
 use Rattle.gen1_c.proofs.batches.update_each.Goals as goal
 
 pub loop-place-init : goal.loop-place-init

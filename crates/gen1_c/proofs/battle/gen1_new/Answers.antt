@@ -1,5 +1,5 @@
 use Rattle.std.proofs.Common.{sym, ◌∙◌}
-use Rattle.gen1_c.proofs.Begun.{begun_as, let_through}
+use Rattle.gen1_c.proofs.Updates.{begun_as, let_through}
 use Rattle.gen1_c.proofs.battle.gen1_new.Goals as goal
 
 pub returns-in-Ok-clause-begun : goal.returns-in-Ok-clause-begun

@@ -18,9 +18,9 @@ use Rattle.gen1_words.specs.ChoiceWords.{choice_of, move_said, place_said, slot_
 use Rattle.gen1_words.specs.declared.chosen.WordsFault.TheVariants.{Unknown}
 use Rattle.gen1_words.specs.declared.words.ChoiceWords.{ChoiceWords}
 use Rattle.gen1_words.specs.declared.words.ChoiceWords.TheVariants.{Exactly, PlaceCalled, SlotCalled}
-use Rattle.gen1_c.specs.Choices.{byte_found, byte_read, move_words, named, switch_words, words_due}
+use Rattle.gen1_c.specs.Battle.{byte_found, byte_read, move_words, named, switch_words, words_due}
 use Rattle.gen1_c.specs.Names.{Tells}
-use Rattle.gen1_c.proofs.Hits.{same_side}
+use Rattle.gen1_c.proofs.OddsDue.{same_side}
 use Rattle.gen1_c.proofs.choice.gen1_choice_from_words.Goals as goal
 
 -- what is expected is read

@@ -2,8 +2,8 @@ use Rattle.std.proofs.Common.{List, Ok, ap, arith, codes, length, subst, sym, â—
 use Rattle.gen1_tables.specs.Names.{move_name}
 use Rattle.gen1_layout.specs.Within.{setting_of}
 use Rattle.gen1_offers.proofs.BetweenUpdates.{packs_of}
-use Rattle.gen1_c.proofs.Begun.{let_through}
-use Rattle.gen1_c.proofs.Hits.{within_out}
+use Rattle.gen1_c.proofs.Updates.{let_through}
+use Rattle.gen1_c.proofs.OddsDue.{within_out}
 use Rattle.gen1_c.proofs.ShortLines.{move_within}
 use Rattle.gen1_c.proofs.Writing.{move_early, move_named, move_unnamed, none_through, refused, written}
 use Rattle.gen1_c.proofs.choice.write_move.Goals as goal

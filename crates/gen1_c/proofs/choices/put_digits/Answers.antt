@@ -1,5 +1,5 @@
 use Rattle.std.proofs.Common.{arith, refl, ◌≡◌}
-use Rattle.gen1_c.proofs.WrittenChoices.{rest_more, so_far-all, so_far-more, so_far-none}
+use Rattle.gen1_c.proofs.Writing.{rest_more, so_far-all, so_far-more, so_far-none}
 use Rattle.gen1_c.proofs.choices.put_digits.Goals as goal
 
 pub loop-digit-init : goal.loop-digit-init

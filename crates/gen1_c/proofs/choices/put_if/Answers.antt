@@ -1,5 +1,5 @@
 use Rattle.std.proofs.Common.{[], arith, length-append, ◌∷◌}
-use Rattle.gen1_c.proofs.WrittenChoices.{front_same}
+use Rattle.gen1_c.proofs.Writing.{front_same}
 use Rattle.gen1_c.proofs.choices.put_if.Goals as goal
 
 pub returns-then-holds-clause-written : goal.returns-then-holds-clause-written

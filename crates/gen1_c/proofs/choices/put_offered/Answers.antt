@@ -2,7 +2,7 @@ use Rattle.std.proofs.Common.{List, ap, length, subst, sym, ◌≤◌, ◌∙◌
 use Rattle.gen1_machine.specs.declared.choice.Choice.{Choice}
 use Rattle.gen1_offers.specs.OfferedMask.{choices_in}
 use Rattle.gen1_offers.proofs.MaskChoices.{few_offered, offered_chosen}
-use Rattle.gen1_c.specs.Update.{Offers}
+use Rattle.gen1_c.specs.Battle.{Offers}
 use Rattle.gen1_c.proofs.choices.put_offered.Goals as goal
 
 pub returns-clause-offers : goal.returns-clause-offers

@@ -1,6 +1,6 @@
 use Rattle.std.proofs.Common.{arith, ◌+◌}
 use Rattle.std.proofs.lemmas.List.{drop-set-lt}
-use Rattle.gen1_c.proofs.WrittenChoices.{front_more}
+use Rattle.gen1_c.proofs.Writing.{front_more}
 use Rattle.gen1_c.proofs.choices.put_one.Goals as goal
 
 pub returns-then-count-lt9-clause-written : goal.returns-then-count-lt9-clause-written

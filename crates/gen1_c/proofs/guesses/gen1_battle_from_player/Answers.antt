@@ -8,7 +8,7 @@ use Rattle.gen1_guesses.specs.declared.guess.Guess.{Guess}
 use Rattle.gen1_states.specs.Bytes.{bytes_of}
 use Rattle.gen1_states.specs.Completed.{completed}
 use Rattle.gen1_states.specs.declared.plain.BattleState.{BattleState}
-use Rattle.gen1_c.specs.Guesses.{code_of, fault_form_of}
+use Rattle.gen1_c.specs.Players.{code_of, fault_form_of}
 use Rattle.gen1_c.specs.declared.guesses.GuessFaultForm.{GuessFaultForm}
 use Rattle.gen1_c.proofs.guesses.gen1_battle_from_player.Goals as goal
 

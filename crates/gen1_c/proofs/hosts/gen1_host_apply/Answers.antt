@@ -3,7 +3,7 @@ use Rattle.gen1_machine.specs.declared.side.Side.{Side}
 use Rattle.gen1_host.specs.Hosts.{Hosts, row_at}
 use Rattle.gen1_host.specs.Table.{Row, after_row, reply_to_row}
 use Rattle.gen1_c.specs.Hosts.{reply_code, row_of}
-use Rattle.gen1_c.proofs.Hits.{same_side}
+use Rattle.gen1_c.proofs.OddsDue.{same_side}
 use Rattle.gen1_c.proofs.Replies.{found, no_row, refused_row, taken_row, that_row}
 use Rattle.gen1_c.proofs.hosts.gen1_host_apply.Goals as goal
 

@@ -3,7 +3,7 @@ use Rattle.std.proofs.Common.{◌∙◌}
 use Rattle.gen1_machine.specs.declared.side.Side.{Side}
 use Rattle.gen1_host.specs.Hosts.{IsSent}
 use Rattle.gen1_host.specs.Messages.{message}
-use Rattle.gen1_c.proofs.Hits.{same_side}
+use Rattle.gen1_c.proofs.OddsDue.{same_side}
 use Rattle.gen1_c.proofs.Replies.{found}
 use Rattle.gen1_c.proofs.hosts.gen1_host_message.Goals as goal
 

@@ -1,6 +1,6 @@
 use Rattle.std.proofs.Common.{Ok, ap, sym, ◌∙◌}
 use Rattle.gen1_c.specs.Names.{base_row}
-use Rattle.gen1_c.proofs.Begun.{let_through}
+use Rattle.gen1_c.proofs.Updates.{let_through}
 use Rattle.gen1_c.proofs.Writing.{in_range, none_through, out_of_range, row_kept, row_told}
 use Rattle.gen1_c.proofs.names.gen1_species_stats.Goals as goal
 

@@ -1,8 +1,7 @@
 use Rattle.std.proofs.Common.{Err, Ok, refl, sym, ◌∙◌}
 use Rattle.gen1_layout.specs.Within.{setting_of}
 use Rattle.gen1_odds.specs.Acting.{action_odds_in}
-use Rattle.gen1_c.proofs.Hits.{within_out}
-use Rattle.gen1_c.proofs.OddsDue.{tells, use_out}
+use Rattle.gen1_c.proofs.OddsDue.{within_out, tells, use_out}
 use Rattle.gen1_c.proofs.odds.gen1_action_odds_now.Goals as goal
 
 pub returns-in-Ok-clause-tells : goal.returns-in-Ok-clause-tells

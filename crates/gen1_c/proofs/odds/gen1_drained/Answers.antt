@@ -2,7 +2,7 @@ use Rattle.std.proofs.Common.{ap, refl, sym, ℕ, ◌∙◌}
 use Rattle.gen1_machine.specs.Moves.{move_at}
 use Rattle.gen1_odds.specs.Odds.{drained}
 use Rattle.gen1_c.specs.Odds.{made_of}
-use Rattle.gen1_c.proofs.Begun.{kept_out, let_through}
+use Rattle.gen1_c.proofs.Updates.{kept_out, let_through}
 use Rattle.gen1_c.proofs.odds.gen1_drained.Goals as goal
 
 pub returns-in-Some : goal.returns-in-Some

@@ -5,8 +5,8 @@ use Rattle.gen1_machine.specs.declared.side.Side.TheVariants.{One}
 use Rattle.gen1_layout.specs.Within.{setting_of}
 use Rattle.gen1_c.specs.Odds.{facing, odds_of_state}
 use Rattle.gen1_c.specs.Teams.{sheet_of}
-use Rattle.gen1_c.proofs.Begun.{let_through}
-use Rattle.gen1_c.proofs.Hits.{within_out}
+use Rattle.gen1_c.proofs.Updates.{let_through}
+use Rattle.gen1_c.proofs.OddsDue.{within_out}
 use Rattle.gen1_c.proofs.odds.gen1_odds_between.Goals as goal
 
 pub returns-clause-told : goal.returns-clause-told

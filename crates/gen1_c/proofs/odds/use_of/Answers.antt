@@ -2,9 +2,8 @@ use Rattle.std.proofs.Common.{Ok, ap, sym, ◌∙◌}
 use Rattle.gen1_machine.specs.declared.side.Side.{Side}
 use Rattle.gen1_layout.specs.Within.{setting_of}
 use Rattle.gen1_offers.proofs.BetweenUpdates.{packs_of}
-use Rattle.gen1_c.proofs.Begun.{kept_out, let_through}
-use Rattle.gen1_c.proofs.Hits.{same_side}
-use Rattle.gen1_c.proofs.OddsDue.{use_no_move, use_none_out, use_value}
+use Rattle.gen1_c.proofs.Updates.{kept_out, let_through}
+use Rattle.gen1_c.proofs.OddsDue.{same_side, use_no_move, use_none_out, use_value}
 use Rattle.gen1_c.proofs.odds.use_of.Goals as goal
 
 pub returns-in_default-new-clause-due : goal.returns-in_default-new-clause-due

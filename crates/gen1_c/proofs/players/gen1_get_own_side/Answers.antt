@@ -1,8 +1,7 @@
 use Rattle.std.proofs.Common.{ap, refl, ◌∙◌}
 use Rattle.gen1_machine.specs.declared.side.Side.{Side}
-use Rattle.gen1_player.specs.OwnSide.{own_side}
-use Rattle.gen1_player.specs.PlainOwnSide.{plain_side}
-use Rattle.gen1_c.proofs.Hits.{same_side}
+use Rattle.gen1_player.specs.OwnSide.{own_side, plain_side}
+use Rattle.gen1_c.proofs.OddsDue.{same_side}
 use Rattle.gen1_c.proofs.players.gen1_get_own_side.Goals as goal
 
 pub returns-clause-shows : goal.returns-clause-shows

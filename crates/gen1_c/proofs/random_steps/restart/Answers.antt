@@ -1,7 +1,7 @@
 use Rattle.std.proofs.Common.{subst, sym}
 use Rattle.gen1_layout.specs.Parts.{Parts}
 use Rattle.gen1_layout.specs.Within.{Stands}
-use Rattle.gen1_c.proofs.Stepping.{begins}
+use Rattle.gen1_c.proofs.Updates.{begins}
 use Rattle.gen1_c.proofs.random_steps.restart.Goals as goal
 
 pub returns-in-Ok : goal.returns-in-Ok

@@ -4,7 +4,7 @@ use Rattle.gen1_machine.specs.State.{is_over}
 use Rattle.gen1_layout.specs.Parts.{Parts}
 use Rattle.gen1_layout.specs.Within.{Stands}
 use Rattle.gen1_engine.specs.declared.result.BattleResult.{BattleResult}
-use Rattle.gen1_c.proofs.Stepping.{again-over, again-stays}
+use Rattle.gen1_c.proofs.Updates.{again-over, again-stays}
 use Rattle.gen1_c.proofs.random_steps.start_again.Goals as goal
 use Rattle.gen1_c.proofs.random_steps.start_again.Goals.{else-place-starts-via-then-place-starts+else-is_over, else-place-starts-via-else-place-starts}
 

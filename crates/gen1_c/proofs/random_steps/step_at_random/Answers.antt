@@ -6,7 +6,7 @@ use Rattle.gen1_engine.specs.declared.result.BattleResult.{BattleResult}
 use Rattle.gen1_engine.specs.Update.{AreOffered}
 use Rattle.gen1_playouts.specs.Playouts.{IsZeros}
 use Rattle.gen1_playouts.proofs.Playing.{drawn-alike, drawn-offered, offers-drawn}
-use Rattle.gen1_c.proofs.Stepping.{stepped-on, stepped-over}
+use Rattle.gen1_c.proofs.Updates.{stepped-on, stepped-over}
 use Rattle.gen1_c.proofs.random_steps.step_at_random.Goals as goal
 
 pub returns-then-is_over-clause-steps : goal.returns-then-is_over-clause-steps

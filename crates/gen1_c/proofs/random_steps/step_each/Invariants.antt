@@ -1,7 +1,7 @@
 -- The first battles are stepped, and counted if they are over; the others and their generators are as they were.
 use Rattle.std.proofs.Common.{take, ◌≡◌, ◌≤◌}
-use Rattle.gen1_c.specs.RandomSteps.{AreListed, AreStepped, over_in}
-use Rattle.gen1_c.proofs.OneByOne.{AreLeft}
+use Rattle.gen1_c.specs.Batches.{AreListed, AreStepped, over_in}
+use Rattle.gen1_c.proofs.Updates.{AreLeft}
 use Rattle.gen1_c.proofs.random_steps.step_each.Given as goal
 
 abbrev pub invariant-loop-place : goal.invariant-loop-place

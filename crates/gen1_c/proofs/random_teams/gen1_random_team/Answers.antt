@@ -2,7 +2,7 @@ use Rattle.std.proofs.Common.{ap, arith, ◌∙◌}
 use Rattle.gen1_random.specs.Teams.{draft}
 use Rattle.gen1_random.specs.declared.teams.DrawnFrom.{DrawnFrom}
 use Rattle.gen1_c.proofs.WrittenTeams.{few, form-lawful, gives-err, gives-ok, random-err, random-ok}
-use Rattle.gen1_c.specs.TeamText.{form_of}
+use Rattle.gen1_c.specs.Teams.{form_of}
 use Rattle.gen1_c.proofs.random_teams.gen1_random_team.Goals as goal
 
 pub returns-in-Ok-clause-gives : goal.returns-in-Ok-clause-gives

@@ -1,6 +1,6 @@
 use Rattle.std.proofs.Common.{ap, sym, ◌∙◌}
 use Rattle.gen1_c.proofs.WrittenTeams.{few, form-lawful, gives-err, gives-ok, sample-err, sample-ok}
-use Rattle.gen1_c.specs.TeamText.{form_of}
+use Rattle.gen1_c.specs.Teams.{form_of}
 use Rattle.gen1_c.proofs.random_teams.gen1_sample_team.Goals as goal
 
 pub returns-in-Some-clause-gives : goal.returns-in-Some-clause-gives

@@ -3,7 +3,7 @@ use Rattle.std.proofs.lemmas.Bool.Decides.{nat_tests}
 use Rattle.gen1_rolls.specs.Link.{Ring}
 use Rattle.gen1_layout.specs.Within.{Stands}
 use Rattle.gen1_engine.specs.Reseed.{reseeded}
-use Rattle.gen1_c.proofs.Begun.{let_through}
+use Rattle.gen1_c.proofs.Updates.{let_through}
 use Rattle.gen1_c.proofs.Writing.{none_through}
 use Rattle.gen1_c.proofs.reseed.gen1_reseed.Goals as goal
 

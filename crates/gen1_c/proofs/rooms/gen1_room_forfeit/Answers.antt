@@ -2,7 +2,7 @@ use Rattle.std.proofs.Common.{refl, subst, sym, ℕ, ◌∙◌, ◌≡◌}
 use Rattle.gen1_machine.specs.State.{is_over}
 use Rattle.gen1_machine.specs.declared.side.Side.{Side}
 use Rattle.gen1_c.specs.Rooms.{ForfeitsAs}
-use Rattle.gen1_c.proofs.Hits.{same_side}
+use Rattle.gen1_c.proofs.OddsDue.{same_side}
 use Rattle.gen1_c.proofs.Replies.{found, over_code, refused_forfeit, taken_forfeit}
 use Rattle.gen1_c.proofs.rooms.gen1_room_forfeit.Goals as goal
 

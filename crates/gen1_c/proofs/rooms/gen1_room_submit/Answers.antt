@@ -1,10 +1,9 @@
 use Rattle.std.proofs.Common.{refl, subst, ◌≡◌, ◌∙◌}
 use Rattle.gen1_machine.specs.declared.side.Side.{Side}
 use Rattle.gen1_machine.specs.Room.{after, reply_to}
-use Rattle.gen1_room.specs.Plain.{Keeps}
-use Rattle.gen1_room.specs.Rooms.{submission_of}
+use Rattle.gen1_room.specs.Rooms.{Keeps, submission_of}
 use Rattle.gen1_c.specs.Rooms.{reply_code}
-use Rattle.gen1_c.proofs.Hits.{same_side}
+use Rattle.gen1_c.proofs.OddsDue.{same_side}
 use Rattle.gen1_c.proofs.Replies.{found, over_code, refused_code, taken_code}
 use Rattle.gen1_c.proofs.rooms.gen1_room_submit.Goals as goal
 

@@ -4,7 +4,7 @@ use Rattle.gen1_stats.specs.Teams.{team_of}
 use Rattle.gen1_text.specs.Packed.{team_packed}
 use Rattle.gen1_writer.specs.PackedLine.{packed_of}
 use Rattle.gen1_writer.specs.Written.{write_refusal}
-use Rattle.gen1_c.proofs.Faults.{due_refusal, due_text, not_refused, sheets-of}
+use Rattle.gen1_c.proofs.WrittenTeams.{due_refusal, due_text, not_refused, sheets-of}
 use Rattle.gen1_c.proofs.Writing.{refused, written, written_back}
 use Rattle.gen1_c.proofs.team_text.gen1_team_to_packed.Goals as goal
 

@@ -1,7 +1,7 @@
 use Rattle.std.proofs.Common.{sym, ◌∙◌}
 use Rattle.gen1_host.specs.Table.{Cancel}
 use Rattle.gen1_host.proofs.Calls.{cancel_not_allowed, cancel_nothing, cancel_stale, cancels}
-use Rattle.gen1_host.proofs.Cancels.{is_not_asked}
+use Rattle.gen1_host.proofs.Submissions.{is_not_asked}
 use Rattle.gen1_host.proofs.Tables.{takes_in_turn, takes_over}
 use Rattle.gen1_host.proofs.submission.cancel.Goals as goal
 

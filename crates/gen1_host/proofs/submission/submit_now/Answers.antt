@@ -1,8 +1,7 @@
 use Rattle.std.proofs.Common.{subst, sym, ◌≤◌}
 use Rattle.gen1_machine.specs.Room.{after, reply_to}
 use Rattle.gen1_room.specs.declared.plain.PlainRoom.{PlainRoom}
-use Rattle.gen1_room.specs.Plain.{Keeps}
-use Rattle.gen1_room.specs.Rooms.{submission_of}
+use Rattle.gen1_room.specs.Rooms.{Keeps, submission_of}
 use Rattle.gen1_host.specs.Table.{drawing}
 use Rattle.gen1_host.proofs.Submissions.{taken, turned_away}
 use Rattle.gen1_host.proofs.submission.submit_now.Goals as goal

@@ -1,4 +1,4 @@
-use Rattle.gen1_host.proofs.Cancels.{one_is_back, two_is_back}
+use Rattle.gen1_host.proofs.Submissions.{one_is_back, two_is_back}
 use Rattle.gen1_host.proofs.submission.take_back.Goals as goal
 
 pub returns-in-One-clause-hosts : goal.returns-in-One-clause-hosts

@@ -1,7 +1,7 @@
 use Rattle.std.proofs.Common.{arith, length, rules, slice_set, subst, sym, ℕ, ◌+◌, ◌<◌, ◌∙◌, ◌≡◌}
 use Rattle.std.proofs.lemmas.List.{length-set}
 use Rattle.gen1_odds.specs.KnockOut.{IsKnown, after_fixed, over}
-use Rattle.gen1_odds.proofs.Sums.{known_more}
+use Rattle.gen1_odds.proofs.Counts.{known_more}
 use Rattle.gen1_odds.proofs.fixed_uses.known_once_fixed.Goals as goal
 
 pub loop-need-init : goal.loop-need-init

@@ -1,7 +1,7 @@
 use Rattle.std.proofs.Common.{ap, arith, sym, ℕ, ◌+◌, ◌-◌, ◌∙◌, ◌≡◌}
 use Rattle.std.specs.List.{range_with_len, sum_by}
 use Rattle.gen1_odds.specs.KnockOut.{after_change, after_fixed_use, taken, two_uses}
-use Rattle.gen1_odds.proofs.Sums.{range_more}
+use Rattle.gen1_odds.proofs.Counts.{range_more}
 use Rattle.gen1_odds.proofs.fixed_uses.thrice_ranged.Goals as goal
 
 pub loop-step-preserved : goal.loop-step-preserved

@@ -1,6 +1,6 @@
 use Rattle.std.proofs.Common.{refl, ◌∙◌}
 use Rattle.gen1_odds.specs.KnockOut.{after_fixed}
-use Rattle.gen1_odds.proofs.Sums.{twice_unchanged}
+use Rattle.gen1_odds.proofs.Counts.{twice_unchanged}
 use Rattle.gen1_odds.proofs.knock_outs.fixed_chances.Goals as goal
 
 pub returns : goal.returns

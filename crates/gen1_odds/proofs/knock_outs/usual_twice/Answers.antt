@@ -1,6 +1,6 @@
 use Rattle.std.proofs.Common.{Bool, ap, if◌then◌else◌, sym, ◌∙◌}
 use Rattle.gen1_odds.specs.KnockOut.{after_usual, no_change, over, two_trapping}
-use Rattle.gen1_odds.proofs.Sums.{twice_unchanged}
+use Rattle.gen1_odds.proofs.Counts.{twice_unchanged}
 use Rattle.gen1_odds.proofs.knock_outs.usual_twice.Goals as goal
 
 pub returns : goal.returns

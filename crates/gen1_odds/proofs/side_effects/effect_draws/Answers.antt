@@ -7,7 +7,7 @@ use Rattle.gen1_machine.specs.Rules.{Rules}
 use Rattle.gen1_machine.specs.Sides.{other}
 use Rattle.gen1_machine.specs.State.{Field}
 use Rattle.gen1_layout.specs.Words.{move_at}
-use Rattle.gen1_odds.specs.SideEffects.{effect_draws, harm_draws, unless_guarded}
+use Rattle.gen1_odds.specs.Odds.{effect_draws, harm_draws, unless_guarded}
 use Rattle.gen1_odds.specs.Trials.{has_substitute_in}
 use Rattle.gen1_odds.proofs.side_effects.effect_draws.Goals as goal
 

@@ -1,7 +1,7 @@
 use Rattle.std.proofs.Common.{arith, length, rules, slice_set, subst, sym, ℕ, ◌+◌, ◌<◌, ◌∙◌, ◌≡◌}
 use Rattle.std.proofs.lemmas.List.{length-set}
 use Rattle.gen1_odds.specs.KnockOut.{IsKnown, after_usual, over}
-use Rattle.gen1_odds.proofs.Sums.{known_more}
+use Rattle.gen1_odds.proofs.Counts.{known_more}
 use Rattle.gen1_odds.proofs.usual_uses.known_once.Goals as goal
 
 pub loop-need-init : goal.loop-need-init

@@ -1,7 +1,7 @@
 use Rattle.std.proofs.Common.{◌≡◌, ℕ, ◌+◌, ◌*◌, ◌<◌, ap, ap₂, sym, ◌∙◌, arith, ◌/◌}
 use Rattle.std.proofs.Math.Nat.{add-mul, div-mul_cancel, mul-add, mul_assoc, mul_comm, mul-div_cancel'}
 use Rattle.std.specs.Int.{◌∣◌}
-use Rattle.gen1_outcomes.proofs.Parts.{both_positive, some_parts}
+use Rattle.gen1_outcomes.proofs.Fractions.{both_positive, some_parts}
 use Rattle.gen1_outcomes.proofs.Walking.{crossed}
 use Rattle.gen1_outcomes.proofs.chances.plus.Goals as goal
 use Rattle.gen1_outcomes.proofs.chances.plus.Goals.{then-whole-eq0-via-then-whole-eq0, then-whole-eq0-via-else-whole-eq0+in_ok-checked_mul+then-branch-whole}

@@ -2,7 +2,7 @@ use Rattle.std.proofs.Common.{ap, subst, sym, ◌∙◌, ℕ, ◌*◌}
 use Rattle.std.specs.Int.{◌∣◌}
 use Rattle.std.proofs.lemmas.Nat.Gcd.{dvd_of_mod-eq-zero}
 use Rattle.gen1_outcomes.specs.declared.merging.Tally.{Tally}
-use Rattle.gen1_outcomes.proofs.Parts.{divides_scaled, some_parts, weight_is}
+use Rattle.gen1_outcomes.proofs.Fractions.{divides_scaled, some_parts, weight_is}
 use Rattle.gen1_outcomes.proofs.merging.scaled_weight.Goals.{else-tally-chance-ne0, then-tally-chance-ne0+in_ok-scale}
 use Rattle.gen1_outcomes.proofs.merging.scaled_weight.Goals as goal
 

@@ -1,5 +1,5 @@
 use Rattle.gen1_machine.specs.State.{party}
-use Rattle.gen1_player.proofs.OwnSides.{counted, have_species, members_under}
+use Rattle.gen1_player.proofs.Fairness.{counted, have_species, members_under}
 use Rattle.gen1_player.proofs.own.count.Goals as goal
 
 pub returns-clause-packs : goal.returns-clause-packs

@@ -5,7 +5,7 @@ use Rattle.gen1_machine.specs.Sides.{other}
 use Rattle.gen1_machine.specs.State.{underway_in}
 use Rattle.gen1_layout.specs.Within.{setting_of}
 use Rattle.gen1_offers.proofs.BetweenUpdates.{packs_of}
-use Rattle.gen1_player.proofs.OwnSides.{nobody_before, within_out}
+use Rattle.gen1_player.proofs.Fairness.{nobody_before, within_out}
 use Rattle.gen1_player.proofs.own.held.Goals as goal
 
 pub returns-then-turn-eq0-clause-stands : goal.returns-then-turn-eq0-clause-stands

@@ -3,8 +3,8 @@ use Rattle.std.proofs.lemmas.List.Elements.{All-from_recursion}
 use Rattle.gen1_layout.specs.Within.{setting_of}
 use Rattle.gen1_machine.specs.State.{party}
 use Rattle.gen1_offers.proofs.BetweenUpdates.{packs_of}
-use Rattle.gen1_player.specs.PlainOwnSide.{IsListedMember}
-use Rattle.gen1_player.proofs.OwnSides.{as_many, fault_fits, shown_at}
+use Rattle.gen1_player.specs.OwnSide.{IsListedMember}
+use Rattle.gen1_player.proofs.Fairness.{as_many, fault_fits, shown_at}
 use Rattle.gen1_player.proofs.own.own_side.Goals as goal
 
 pub returns-clause-stands : goal.returns-clause-stands

@@ -1,6 +1,6 @@
 use Rattle.std.proofs.Common.{ap, refl, sym, ℕ, ◌-◌, ◌∙◌}
 use Rattle.gen1_machine.specs.State.{conditions_in}
-use Rattle.gen1_player.proofs.OwnSides.{flinch_hidden, no_flinch}
+use Rattle.gen1_player.proofs.Fairness.{flinch_hidden, no_flinch}
 use Rattle.gen1_player.proofs.own.shown_conditions.Goals as goal
 
 pub returns-then-is_on : goal.returns-then-is_on

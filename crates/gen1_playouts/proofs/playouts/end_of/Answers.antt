@@ -3,7 +3,7 @@ use Rattle.gen1_rolls.specs.Link.{ring_of}
 use Rattle.gen1_engine.specs.Reseed.{reseeded}
 use Rattle.gen1_layout.specs.Parts.{Parts}
 use Rattle.gen1_layout.specs.Within.{Stands}
-use Rattle.gen1_playouts.proofs.Drawing.{begins-with, plays-round}
+use Rattle.gen1_playouts.proofs.Playing.{begins-with, plays-round}
 use Rattle.gen1_playouts.proofs.playouts.end_of.Goals as goal
 
 pub returns-in-Ok-clause-ends : goal.returns-in-Ok-clause-ends

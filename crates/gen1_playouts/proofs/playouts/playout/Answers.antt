@@ -1,5 +1,5 @@
 use Rattle.std.proofs.Common.{arith, refl}
-use Rattle.gen1_playouts.proofs.Counting.{plays-more, plays-none}
+use Rattle.gen1_playouts.proofs.Playing.{plays-more, plays-none}
 use Rattle.gen1_playouts.proofs.playouts.playout.Goals as goal
 
 pub rounds-init : goal.rounds-init

@@ -12,7 +12,7 @@ use Rattle.gen1_offers.proofs.BetweenUpdates.{packs_of}
 use Rattle.gen1_engine.specs.Update.{AreOffered}
 use Rattle.gen1_engine.specs.declared.result.BattleResult.{BattleResult}
 use Rattle.gen1_playouts.specs.Playouts.{IsDrawn, Playout, drawn_from, end_in, most_updates, played}
-use Rattle.gen1_playouts.proofs.Accepting.{accepts-more, accepts-none}
+use Rattle.gen1_playouts.proofs.Offers.{accepts-more, accepts-none}
 use Rattle.gen1_playouts.proofs.Playing.{end-over, ended, most-either, offers-drawn, plays-next, plays_on-more, plays_on-none}
 use Rattle.gen1_playouts.proofs.Benched.{AreBenches, FollowsOn, follow-update, ran-more}
 use Rattle.gen1_playouts.proofs.playouts.run.Goals as goal

@@ -1,7 +1,7 @@
 use Rattle.std.proofs.Common.{arith, length, subst, sym, take, ℕ, ◌<◌, ◌∙◌, ◌≡◌}
 use Rattle.std.proofs.lemmas.List.{length-set, take_all}
 use Rattle.gen1_playouts.specs.Playouts.{numbers_from}
-use Rattle.gen1_playouts.proofs.Drawing.{draws-more}
+use Rattle.gen1_playouts.proofs.Playing.{draws-more}
 use Rattle.gen1_playouts.proofs.choice_generator.ChoiceGenerator.ten_numbers.Goals as goal
 
 pub loop-place-preserved : goal.loop-place-preserved
