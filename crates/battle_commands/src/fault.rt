@@ -45,7 +45,7 @@ pub enum ToolFault {
 
 impl ToolFault {
     ghost use Rattle.gen1_stats.specs.Refusals.{number_of, place_of};
-    ghost use Rattle.battle_commands.specs.Faults.{of_sheet, status_of};
+    ghost use Rattle.battle_commands.specs.Faults.{status_of};
 
     /// Makes the error of a side, 1 or 2, whose team is refused.
     pub fn of_team(side: u8, refusal: TeamRefusal) -> ToolFault
@@ -127,6 +127,8 @@ impl ToolFault {
 }
 
 impl From<SheetFault> for ToolFault {
+    ghost use Rattle.battle_commands.specs.Faults.{of_sheet};
+
     ghost from_gives = { λ why fault. fault ≡ of_sheet why };
 
     fn from(fault: SheetFault) -> ToolFault {
