@@ -107,7 +107,7 @@ most_grown ways least a w num whole y now b some has is below most =
 pub scaled : (a w more : ℕ) → a * more * w ≡ a * (w * more)
 scaled a w more = mul_assoc a more w ∙ ap (λ (z : ℕ). a * z) (mul_comm more w)
 
--- A probability over a denominator that is a multiple of its own.
+-- A probability over a multiple of its denominator.
 pub weight_is : (num whole now : ℕ) → whole ∣ now → num * (now / whole) * whole ≡ num * now
 weight_is num whole now divides = mul_assoc num (now / whole) whole ∙ ap (λ (x : ℕ). num * x) (div-mul_cancel whole divides)
 

@@ -1,4 +1,4 @@
--- Where a battle is in a list, which array is too short for it, and what a list leaves out.
+-- Where a battle is in a list, why there is no list, and what a list leaves out.
 use Rattle.std.specs.Prelude.{List, Some, drop, length, min, slice_index, take, ℕ, ◌%◌, ◌*◌, ◌+◌, ◌-◌, ◌/◌, ◌<◌, ◌≡◌, ◌≢◌, ◌≤◌}
 use Rattle.std.specs.Int.{from_le_bytes, w64}
 use Rattle.gen1_machine.specs.declared.choice.Choice.{Choice}
@@ -25,7 +25,7 @@ IsFull table = (slot : ℕ) → slot < length table → slice_index table slot �
 abbrev pub LacksPlaces : ℕ → ℕ → List ℕ → Type 0
 LacksPlaces count places table = (min places 4294967295 ≤ count) × HasFree table
 
--- The array that a fault names is too short: the table is full, or if it has a free place, the list is. It is no refusal.
+-- The array that a fault names is too short: the table is full, or if it has a free place, the list is. It isn't a refusal.
 abbrev pub IsShort : OutcomesFault → ℕ → ℕ → List ℕ → Type 0
 IsShort (faults.Refused why) count places table = ⊥
 IsShort faults.Places count places table = LacksPlaces count places table
