@@ -103,10 +103,7 @@ class Rules:
                     self.add(source.own(at), Item("tests", file, at + 2, name, source.documented(at)))
 
     def examples(self):
-        for file in [
-            *sorted((ROOT / "crates").glob("*/proofs/Worked*.antt")),
-            ROOT / "crates/gen1_machine/proofs/Rows.antt",
-        ]:
+        for file in sorted((ROOT / "crates").glob("*/proofs/Worked*.antt")):
             source = Source(file)
             for at, line in enumerate(source.lines):
                 if found := LEMMA.match(line):

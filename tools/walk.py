@@ -371,11 +371,9 @@ SOUND_HEAD = """-- The phases of an action that touch nothing that the current m
 -- file, with the lemmas of sound_lemmas.txt.
 %s
 use Rattle.std.proofs.lemmas.Bool.{false≢true, ltb-true}
-use Rattle.gen1_machine.proofs.Keeps.{choose-keeps, draw-keeps, ends-keeps, given-keeps, keeps_rules, note-keeps, on_action-keeps, on_active-keeps, on_conditions-keeps, on_field-keeps, set_last_damage-keeps, set_missed-keeps, starts-keeps, stay-keeps, stop-keeps, then-keeps, told-keeps, Keeps, KeepsRuling, Spares, SparesAction}
-use Rattle.gen1_machine.proofs.Leads.{keeps-leads, stay-leads, then-leads, Leads}
+use Rattle.gen1_machine.proofs.Keeps.{choose-keeps, draw-keeps, ends-keeps, given-keeps, keeps_rules, note-keeps, on_action-keeps, on_active-keeps, on_conditions-keeps, on_field-keeps, set_last_damage-keeps, set_missed-keeps, starts-keeps, stay-keeps, stop-keeps, then-keeps, told-keeps, Keeps, KeepsRuling, Spares, SparesAction, keeps-leads, stay-leads, then-leads, Leads}
 use Rattle.gen1_machine.proofs.Tame.{broken_off-tame, penalty-tame, recomputed-tame, stage-tame, status-tame, tame_rules, with_confusion-tame, with_substitute-tame, without_confusion-tame, without_disable-tame, without_flinch-tame, without_invulnerability-tame, TameActive, TameConditions, TameMember}
-use Rattle.gen1_machine.proofs.Sound.{choose-leads_sees, choose-sees, draw-sees, draw_until-sees, given-sees, party-valid, told-leads, Sound}
-use Rattle.gen1_machine.proofs.SoundFacts.{base-small, before_types-small, confusion-less, disable-less, disabled-valid, draw-leads, draw_until-leads, fails_if-plain, leads-from, named, on_conditions-leads, out-valid, risen-small, stage-small, typed-small, varied-small, IsMove}
+use Rattle.gen1_machine.proofs.Sound.{choose-leads_sees, choose-sees, draw-sees, draw_until-sees, given-sees, party-valid, told-leads, Sound, base-small, before_types-small, confusion-less, disable-less, disabled-valid, draw-leads, draw_until-leads, fails_if-plain, leads-from, named, on_conditions-leads, out-valid, risen-small, stage-small, typed-small, varied-small, IsMove}
 
 one-least : 1 ≤ 1
 one-least = omega arith

@@ -1,8 +1,6 @@
 -- What the loops of the subcommands keep true, what is returned if nothing is printed, and worked examples of command lines.
 pub mod Standing
-pub mod Outcomes
 pub mod Heard
-pub mod Pieces
 pub mod Serving
 pub mod Replying
 mod WorkedWords

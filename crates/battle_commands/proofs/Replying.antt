@@ -1,5 +1,5 @@
 -- What is replied to words that ask for nothing to run, and that other words ask for a subcommand.
-use Rattle.std.proofs.Common.{List, None, refl, Option, Some, ap, option_map, true, ◌≡◌, ◌∙◌, Bool, Result, [], arith, codes, false, inl, inr, length, subst, sym, ℕ, ◌<◌, ◌∷◌}
+use Rattle.std.proofs.Common.{List, None, refl, Option, Some, ap, option_map, true, ◌≡◌, ◌∙◌, Bool, Result, [], arith, codes, false, inl, inr, length, subst, sym, ℕ, ◌<◌, ◌∷◌, append-nil, append_assoc, ◌++◌}
 use Rattle.std.specs.Prelude.{Box, unwrap_or, is_some, ◌≢◌, ◌⊎◌}
 use Rattle.std.specs.Box.{box_value}
 use Rattle.clap.specs.Matches.{subcommand_name_of, first_value, found_of, has_subcommand}
@@ -17,9 +17,9 @@ use Rattle.clap.specs.declared.error.kind.ErrorKind.{ErrorKind}
 use Rattle.clap.specs.declared.error.kind.ErrorKind.TheVariants.{DisplayHelp, DisplayVersion, MissingSubcommand, OutOfMemory}
 use Rattle.gen1_devices.specs.Output.{Sends}
 use Rattle.gen1_devices.specs.declared.io.DeviceFault.{DeviceFault}
-use Rattle.battle_commands.specs.Answers.{Sent, Tells}
-use Rattle.battle_commands.specs.Replies.{IsHelp, IsRefusal, IsReply, Replies, RepliesTo, Says, said_or_usage, usage}
-use Rattle.battle_commands.specs.Served.{IsUnheld}
+use Rattle.battle_commands.specs.Asked.{Sent, Tells}
+use Rattle.battle_commands.specs.Served.{IsHelp, IsRefusal, IsReply, Replies, RepliesTo, Says, said_or_usage, usage, IsUnheld}
+use Rattle.gen1_machine.specs.Lines.{joined}
 
 -- What words ask for, by what was found in them.
 
@@ -157,3 +157,30 @@ one_found app m words app_is has none = sym (rows_there (out-ArgMatches m).subco
 -- whether a FILE is named, by the rows
 pub file_named : (m : ArgMatches) (asked : Text × List Row) → rows_of (found_of m) ≡ asked.1 → is_some (first_value (found_of m) (codes "FILE")) ≡ names_file asked
 file_named m asked e = ap is_some (first_value-rows (found_of m) (codes "FILE") ∙ ap (first_of (codes "FILE")) e)
+
+-- Pieces that are written one after the other.
+
+more : (old new piece rest : List ℕ) → new ≡ old ++ piece → new ++ rest ≡ old ++ (piece ++ rest)
+more old new piece rest e = ap (λ (b : List ℕ). b ++ rest) e ∙ append_assoc old piece rest
+
+-- two more pieces, the second a number
+two_more : (a b c piece number text rest : List ℕ) → b ≡ a ++ piece → c ≡ b ++ number → number ≡ text → c ++ rest ≡ a ++ (piece ++ (text ++ rest))
+two_more a b c piece number text rest e f is =
+    more b c text rest (f ∙ ap (λ (t : List ℕ). b ++ t) is) ∙ more a b piece (text ++ rest) e
+
+pub four_pieces : (a b c d e p m x q n y : List ℕ) → a ≡ [] → b ≡ a ++ p → c ≡ b ++ m → m ≡ x → d ≡ c ++ q → e ≡ d ++ n → n ≡ y
+    → e ≡ joined (p ∷ x ∷ q ∷ y ∷ [])
+four_pieces a b c d e p m x q n y none first number is second another is_too =
+    sym (append-nil e)
+    ∙ two_more c d e q n y [] second another is_too
+    ∙ two_more a b c p m x (q ++ (y ++ [])) first number is
+    ∙ ap (λ (l : List ℕ). l ++ (p ++ (x ++ (q ++ (y ++ []))))) none
+
+pub six_pieces : (a b c d e f g p m x q n y r o z : List ℕ) → a ≡ [] → b ≡ a ++ p → c ≡ b ++ m → m ≡ x → d ≡ c ++ q → e ≡ d ++ n → n ≡ y
+    → f ≡ e ++ r → g ≡ f ++ o → o ≡ z → g ≡ joined (p ∷ x ∷ q ∷ y ∷ r ∷ z ∷ [])
+six_pieces a b c d e f g p m x q n y r o z none first number is second another is_too third last is_last =
+    sym (append-nil g)
+    ∙ two_more e f g r o z [] third last is_last
+    ∙ two_more c d e q n y (r ++ (z ++ [])) second another is_too
+    ∙ two_more a b c p m x (q ++ (y ++ (r ++ (z ++ [])))) first number is
+    ∙ ap (λ (l : List ℕ). l ++ (p ++ (x ++ (q ++ (y ++ (r ++ (z ++ []))))))) none

@@ -1,15 +1,234 @@
 -- What a subcommand reads and prints: by its five names, and by a FILE that was opened; and the status of a complete run.
-use Rattle.std.proofs.Common.{Bool, Err, IfSome, List, None, Ok, Option, Result, Some, ap, false, option_map, subst, sym, true, ℕ, ◌||◌, ◌≡◌, ◌∙◌}
+use Rattle.std.proofs.Common.{◌≡◌, ◌||◌, ℕ, ◌<◌, ◌≤◌, Bool, true, false, nat_lt, List, [], length, Option, Some, None, Result, Ok, Err, IfSome, refl, sym, subst, ap, ◌∙◌, rules, arith, inl, inr, replicate, ◌∷◌, ◌⊎◌, option_map}
 use Rattle.std.proofs.KnownBytes.{Appends-nil}
-use Rattle.std.specs.Prelude.{codes, is_ok, is_some}
-use Rattle.battle_commands.specs.Answers.{Answers, is_read_fault}
-use Rattle.battle_commands.specs.Calc.{PrintsDamages, damages_due}
-use Rattle.battle_commands.specs.Due.{log_due, run_due, room_due}
-use Rattle.battle_commands.specs.Faults.{status_of}
-use Rattle.battle_commands.specs.Served.{PrintsLog, Serves, given}
+use Rattle.serde_json.specs.Data.{Data}
+use Rattle.gen1_machine.specs.State.{State, Terms, first_state, changed_active, changed_conditions, usual_terms}
+use Rattle.battle_commands.specs.Asked.{Answers, IsInputFault, of_read, of_write, Asked, asked_of, begins, input_limit, Opens, Finds, Due, due_if, is_read_fault, log_due, run_due, room_due}
+use Rattle.gen1_stats.specs.Members.{Member}
+use Rattle.gen1_stats.specs.Teams.{Sheet as MemberSheet, team_of, team_refusal, member_of}
+use Rattle.gen1_layout.specs.Parts.{Parts}
+use Rattle.gen1_layout.specs.Shows.{Stands}
+use Rattle.battle_input.specs.Sheets.{BattleData, input_of, sheet_of, Gives, sheet_view, calc_sheet_of}
+use Rattle.battle_input.specs.declared.fault.SheetFault.{SheetFault}
+use Rattle.battle_input.specs.declared.fault.SheetFault.TheVariants.{Json as NoSheet, Memory as NoMemory}
+use Rattle.battle_input.specs.declared.misfit.Key.{Key}
+use Rattle.battle_input.specs.declared.misfit.Misfit.{Misfit}
+use Rattle.battle_commands.specs.Faults.{of_sheet, status_of}
+use Rattle.battle_commands.specs.declared.asked_battle.Bout.{Bout}
 use Rattle.battle_commands.specs.declared.fault.ToolFault.{ToolFault}
-use Rattle.battle_commands.specs.declared.fault.ToolFault.TheVariants.{Calc, Json, Log, Memory, Pair, Read, Team, TooLong, Write}
-use Rattle.battle_commands.proofs.Outcomes.{answers_unread, or_false, some_all}
+use Rattle.battle_commands.specs.declared.fault.ToolFault.TheVariants.{Json, TooLong, Team, Pair, Log, Calc, Read, Write, Memory}
+use Rattle.gen1_machine.specs.Conditions.{without_trapping}
+use Rattle.gen1_machine.specs.CurrentStats.{with_penalty_of}
+use Rattle.gen1_machine.specs.Progress.{Progress}
+use Rattle.gen1_machine.specs.Step.{opened}
+use Rattle.gen1_machine.specs.SwitchingIn.{send_out, start, with_sent_out}
+use Rattle.gen1_machine.specs.Valid.{IsStarted, IsState, IsUnstarted}
+use Rattle.gen1_machine.specs.declared.side.Side.TheVariants.{One, Two}
+use Rattle.gen1_layout.proofs.Words.{then-goes}
+use Rattle.gen1_switching.proofs.SwitchingIn.{sends_as}
+use Rattle.battle_commands.specs.Calc.{duel, PrintsDamages, damages_due, damages_of}
+use Rattle.std.specs.Prelude.{ok_or, codes, is_ok, is_some}
+use Rattle.gen1_machine.specs.Moves.{move_at}
+use Rattle.gen1_hits.specs.DamageNumbers.{has_usual_damage}
+use Rattle.battle_commands.specs.Served.{PrintsLog, Serves, given}
+use Rattle.battle_input.specs.declared.calc_sheet.CalcSheet.{CalcSheet}
+
+-- What is returned for an input: if nothing is printed, and if its battle is played.
+
+-- a fact about what there may be follows from another
+pub some_along : {A : Type 0} (o : Option A) (P Q : A → Type 0) → ((x : A) → P x → Q x) → IfSome o P → IfSome o Q
+some_along None P Q f h = tt
+some_along (Some x) P Q f h = f x h
+
+pub some_all : {A : Type 0} (o : Option A) (P : A → Type 0) → ((x : A) → P x) → IfSome o P
+some_all None P f = tt
+some_all (Some x) P f = f x
+
+-- nothing of the expected text was written
+
+pub answers_unread : (due : Due) (old : Option (List ℕ)) → Answers {T = Unit {0}} due old old (Err Read)
+answers_unread due old = record { front = []; rest = due.text; split = refl; written = Appends-nil old }
+
+pub answers_unheld : (due : Due) (old : Option (List ℕ)) → Answers {T = Unit {0}} due old old (Err Memory)
+answers_unheld due old = record { front = []; rest = due.text; split = refl; written = Appends-nil old }
+
+too_long : {A : Type 0} (key : Key) (meaning : Data → Result A Misfit) (input : List ℕ) → input_limit < length input → asked_of key meaning input ≡ Err TooLong
+unfolding asked_of
+too_long key meaning input h = search rules
+
+-- no input was read
+pub opens_no_input : {A : Type 0} (key : Key) (meaning : Data → Result A Misfit) (fault : ToolFault) (told : Option (List ℕ)) → IsInputFault fault told
+    → IfSome told (λ input. Opens (Err fault) (asked_of key meaning input))
+opens_no_input key meaning Read told h = some_all told _ (λ input. tt)
+opens_no_input key meaning Memory told h = some_all told _ (λ input. tt)
+opens_no_input key meaning TooLong told h = some_along told (λ input. input_limit < length input) _ (too_long key meaning) h
+opens_no_input key meaning (Json fault) told h = absurd h
+opens_no_input key meaning (Team side place refusal) told h = absurd h
+opens_no_input key meaning (Pair number refusal) told h = absurd h
+opens_no_input key meaning (Log number) told h = absurd h
+opens_no_input key meaning Calc told h = absurd h
+opens_no_input key meaning Write told h = absurd h
+
+-- no sheet can be read from the input
+pub opens_no_sheet : {A : Type 0} (key : Key) (meaning : Data → Result A Misfit) (fault : SheetFault) (input : List ℕ) → length input ≤ input_limit
+    → Gives sheet_view (Err fault) (input_of (sheet_of key meaning) input) → Opens (Err (of_sheet fault)) (asked_of key meaning input)
+unfolding asked_of
+opens_no_sheet key meaning NoMemory input fits is = tt
+opens_no_sheet key meaning (NoSheet fault) input fits is =
+    let short : nat_lt input_limit (length input) ≡ false = search rules in
+    rw (short, is) refl
+
+pub sheet_unread : (fault : SheetFault) → of_read (of_sheet fault) ≡ false
+sheet_unread (NoSheet fault) = refl
+sheet_unread NoMemory = refl
+
+pub sheet_unwritten : (fault : SheetFault) → of_write (of_sheet fault) ≡ false
+sheet_unwritten (NoSheet fault) = refl
+sheet_unwritten NoMemory = refl
+
+-- a battle is requested if neither team is refused
+pub asks_for : {A : Type 0} (key : Key) (meaning : Data → Result A Misfit) (input : List ℕ) (sheet : BattleData × List A) → length input ≤ input_limit
+    → input_of (sheet_of key meaning) input ≡ Ok sheet → team_refusal sheet.0.one ≡ None → team_refusal sheet.0.two ≡ None
+    → asked_of key meaning input ≡ Ok (record { state = begins sheet.0; items = sheet.1 })
+unfolding asked_of
+asks_for key meaning input sheet fits is one two =
+    let short : nat_lt input_limit (length input) ≡ false = search rules in
+    rw (short, is, one, two) refl
+
+-- and it begins with the two teams
+pub stands_begun : (p : Parts) (t : Terms) (seed : List ℕ) (one two : List Member) (a b : List MemberSheet) → one ≡ team_of a → two ≡ team_of b
+    → Stands p (first_state t one two seed) → Stands p (first_state t (team_of a) (team_of b) seed)
+stands_begun p t seed one two a b e f h =
+    subst (λ (x : List Member). Stands p (first_state t x (team_of b) seed)) e (subst (λ (y : List Member). Stands p (first_state t one y seed)) f h)
+
+-- no battle was opened
+
+unopened : {A : Type 0} (due : State → List A → Due) (fault : ToolFault) (asked : Result (Asked A) ToolFault) (old : Option (List ℕ)) → Opens (Err fault) asked
+    → Answers {T = Unit {0}} (due_if due asked) old old (Err fault)
+unopened due Memory asked old h = answers_unheld (due_if due asked) old
+unopened due Read asked old h = answers_unread (due_if due asked) old
+unopened due Write asked old h = absurd h
+unopened due (Json fault) asked old h = subst (λ (d : Due). Answers {T = Unit {0}} d old old (Err (Json fault))) (sym (ap (due_if due) h)) (refl, Appends-nil old)
+unopened due TooLong asked old h = subst (λ (d : Due). Answers {T = Unit {0}} d old old (Err TooLong)) (sym (ap (due_if due) h)) (refl, Appends-nil old)
+unopened due (Team side place refusal) asked old h =
+    subst (λ (d : Due). Answers {T = Unit {0}} d old old (Err (Team side place refusal))) (sym (ap (due_if due) h)) (refl, Appends-nil old)
+unopened due (Pair number refusal) asked old h =
+    subst (λ (d : Due). Answers {T = Unit {0}} d old old (Err (Pair number refusal))) (sym (ap (due_if due) h)) (refl, Appends-nil old)
+unopened due (Log number) asked old h = subst (λ (d : Due). Answers {T = Unit {0}} d old old (Err (Log number))) (sym (ap (due_if due) h)) (refl, Appends-nil old)
+unopened due Calc asked old h = subst (λ (d : Due). Answers {T = Unit {0}} d old old (Err Calc)) (sym (ap (due_if due) h)) (refl, Appends-nil old)
+
+pub answers_unopened : {A : Type 0} (due : State → List A → Due) (asked : List ℕ → Result (Asked A) ToolFault) (fault : ToolFault) (told : Option (List ℕ)) (old : Option (List ℕ))
+    → IfSome told (λ input. Opens (Err fault) (asked input)) → IfSome told (λ input. Answers {T = Unit {0}} (due_if due (asked input)) old old (Err fault))
+answers_unopened due asked fault told old opens = some_along told _ _ (λ input h. unopened due fault (asked input) old h) opens
+
+-- what is requested was done
+pub answers_opened : {T A : Type 0} (due : State → List A → Due) (asked : List ℕ → Result (Asked A) ToolFault) (bout : Bout A) (told : Option (List ℕ)) (old new : Option (List ℕ)) (result : Result T ToolFault)
+    → IfSome told (λ input. Opens (Ok bout) (asked input)) → ((x : Asked A) → Stands bout.battle x.state → bout.items.items ≡ x.items → Answers (due x.state x.items) old new result)
+    → IfSome told (λ input. Answers (due_if due (asked input)) old new result)
+answers_opened due asked bout told old new result opens done =
+    some_along told (λ input. Opens (Ok bout) (asked input)) (λ input. Answers (due_if due (asked input)) old new result)
+    (λ input h. subst (λ (d : Due). Answers d old new result) (sym (ap (due_if due) h.1)) (done h.0 h.2 h.3)) opens
+
+-- what was opened was requested by the bytes that were read
+pub opens_read : {A : Type 0} (asked : List ℕ → Result (Asked A) ToolFault) (opened : Result (Bout A) ToolFault) (told : Option (List ℕ)) (items slice : List ℕ)
+    → slice ≡ items → Opens opened (asked slice) → IfSome told (λ input. items ≡ input) → IfSome told (λ input. Opens opened (asked input))
+opens_read asked opened told items slice lent opens read =
+    some_along told (λ input. items ≡ input) (λ input. Opens opened (asked input)) (λ input same. subst (λ bytes. Opens opened (asked bytes)) (lent ∙ same) opens) read
+
+unfailed : (b : Bool) → b ≡ (b || false)
+unfailed true = refl
+unfailed false = refl
+
+pub or_false : (b : Bool) → (b || false) ≡ b
+or_false b = sym (unfailed b)
+
+-- if nothing is written no write has failed
+pub no_writes : (b c : Bool) → c ≡ false → b ≡ (b || c)
+no_writes b c none = unfailed b ∙ ap (λ x. b || x) (sym none)
+
+-- the same while an input is read
+pub unwritten : (fault : ToolFault) (told : Option (List ℕ)) → IsInputFault fault told → of_write fault ≡ false
+unwritten Write told h = absurd h
+unwritten Read told h = refl
+unwritten Memory told h = refl
+unwritten TooLong told h = refl
+unwritten (Json fault) told h = absurd h
+unwritten (Team side place refusal) told h = absurd h
+unwritten (Pair number refusal) told h = absurd h
+unwritten (Log number) told h = absurd h
+unwritten Calc told h = absurd h
+
+-- What `calc` is to write and return, and what it and `print` return if no input was read.
+
+-- nothing is drawn, so any seed will do
+abbrev no_seed : List ℕ
+no_seed = replicate 10 0
+
+abbrev pub before : MemberSheet → MemberSheet → State
+before a b = first_state usual_terms (member_of a ∷ []) (member_of b ∷ []) no_seed
+
+pub unstarted : (a b : MemberSheet) → IsState (before a b) → IsUnstarted usual_terms (before a b).field
+unstarted a b valid = by valid.field
+  where
+    by : IsUnstarted usual_terms (before a b).field ⊎ IsStarted usual_terms (before a b).field → IsUnstarted usual_terms (before a b).field
+    by (inl u) = u
+    by (inr v) = absurd (omega (arith, v.turn))
+
+-- both members out, side 1's first
+pub both_out : (a b : MemberSheet) → (start (opened (before a b))).field ≡ duel (member_of a) (member_of b)
+unfolding start changed_active changed_conditions with_penalty_of with_sent_out without_trapping
+both_out a b =
+    let s = before a b in
+    let one = sends_as One 1 (opened s) refl in
+    ap (λ (q : Progress). q.field) (then-goes (send_out One 1) (send_out Two 1) (opened s) (ap (λ (q : Progress). q.stopped) one) ∙ ap (send_out Two 1) one ∙ sends_as Two 1 _ refl)
+
+-- neither team is refused, and the move has the usual damage
+pub due_found : (input : List ℕ) (s : CalcSheet) → length input ≤ input_limit → input_of calc_sheet_of input ≡ Ok s
+    → team_refusal (s.attacker ∷ []) ≡ None → team_refusal (s.defender ∷ []) ≡ None → has_usual_damage (move_at s.id) ≡ true
+    → damages_due input ≡ ok_or (damages_of s) Calc
+unfolding damages_due
+due_found input s fits sheet one two usual =
+    let short : nat_lt input_limit (length input) ≡ false = search rules in
+    rw (short, sheet, one, two, usual) refl
+
+-- no sheet can be read from the input
+pub finds_no_sheet : (fault : SheetFault) (input : List ℕ) → length input ≤ input_limit → Gives (λ (sheet : CalcSheet). sheet) (Err fault) (input_of calc_sheet_of input)
+    → Finds (Err (of_sheet fault)) (damages_due input)
+unfolding damages_due
+finds_no_sheet NoMemory input fits is = tt
+finds_no_sheet (NoSheet fault) input fits is =
+    let short : nat_lt input_limit (length input) ≡ false = search rules in
+    rw (short, is) refl
+
+pub due_too_long : (input : List ℕ) → input_limit < length input → damages_due input ≡ Err TooLong
+unfolding damages_due
+due_too_long input h = search rules
+
+-- no input was read, and nothing is written
+
+pub prints_no_damages : (fault : ToolFault) (told old : Option (List ℕ)) → IsInputFault fault told
+    → IfSome told (λ input. PrintsDamages {T = Unit {0}} (damages_due input) old old (Err fault))
+prints_no_damages Read told old h = some_all told _ (λ input. Appends-nil old)
+prints_no_damages Memory told old h = some_all told _ (λ input. Appends-nil old)
+prints_no_damages TooLong told old h = some_along told (λ input. input_limit < length input) _ (λ input long. (due_too_long input long, Appends-nil old)) h
+prints_no_damages (Json fault) told old h = absurd h
+prints_no_damages (Team side place refusal) told old h = absurd h
+prints_no_damages (Pair number refusal) told old h = absurd h
+prints_no_damages (Log number) told old h = absurd h
+prints_no_damages Calc told old h = absurd h
+prints_no_damages Write told old h = absurd h
+
+pub prints_no_log : (fault : ToolFault) (told old : Option (List ℕ)) → IsInputFault fault told
+    → IfSome told (λ log. PrintsLog {T = Unit {0}} log old old (Err fault))
+prints_no_log Read told old h = some_all told _ (λ log. Appends-nil old)
+prints_no_log Memory told old h = some_all told _ (λ log. Appends-nil old)
+prints_no_log TooLong told old h = some_along told (λ log. input_limit < length log) _ (λ log long. (long, Appends-nil old)) h
+prints_no_log (Json fault) told old h = absurd h
+prints_no_log (Team side place refusal) told old h = absurd h
+prints_no_log (Pair number refusal) told old h = absurd h
+prints_no_log (Log number) told old h = absurd h
+prints_no_log Calc told old h = absurd h
+prints_no_log Write told old h = absurd h
 
 -- by the name
 pub serves : (name : List ℕ) (told old new : Option (List ℕ)) (result : Result (Unit {0}) ToolFault)

@@ -11,13 +11,12 @@ use Rattle.gen1_machine.specs.State.{State}
 use Rattle.gen1_machine.specs.Step.{Accepted, Answer, Refused, Refusal}
 use Rattle.gen1_devices.proofs.OutputLemmas.{appends_front_after}
 use Rattle.gen1_layout.specs.Parts.{Parts}
-use Rattle.gen1_layout.specs.Within.{Stands}
+use Rattle.gen1_layout.specs.Shows.{Stands}
 use Rattle.gen1_engine.specs.Replay.{step_by_bytes}
 use Rattle.gen1_engine.specs.Update.{AnswersAs, LogsAs, TellsAs, refusal_number, refusal_of}
 use Rattle.gen1_engine.specs.declared.result.BattleResult.{BattleResult}
 use Rattle.gen1_engine.specs.declared.result.Refusal.{Refusal as Why}
-use Rattle.battle_commands.specs.Answers.{Answers}
-use Rattle.battle_commands.specs.Due.{Due, after, due_by, due_from}
+use Rattle.battle_commands.specs.Asked.{Answers, Due, after, due_by, due_from}
 use Rattle.battle_commands.specs.declared.fault.ToolFault.TheVariants.{Memory, Pair, Write}
 
 -- what an update by bytes returned

@@ -10,8 +10,7 @@ use Rattle.gen1_machine.specs.Damage.{numbers_in}
 use Rattle.gen1_machine.specs.Moves.{move_at}
 use Rattle.gen1_devices.specs.Output.{AppendsFront}
 use Rattle.gen1_machine.specs.declared.side.Side.TheVariants.{One}
-use Rattle.gen1_hits.specs.Factors.{damages}
-use Rattle.gen1_hits.specs.UsualDamage.{has_usual_damage}
+use Rattle.gen1_hits.specs.DamageNumbers.{damages, has_usual_damage}
 use Rattle.battle_input.specs.Sheets.{input_of, calc_sheet_of}
 use Rattle.battle_commands.specs.Asked.{input_limit, unless}
 use Rattle.battle_input.specs.declared.calc_sheet.CalcSheet.{CalcSheet}

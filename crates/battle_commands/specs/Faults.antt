@@ -1,6 +1,6 @@
 -- The exit status of each error, and what standard error gets of it (docs/PROGRAM.md, "Faults and statuses").
 use Rattle.std.specs.Prelude.{Bool, List, Option, option_and_then, ℕ, [], codes, decimal, ◌++◌, ◌∷◌, if◌then◌else◌, ◌==◌}
-use Rattle.gen1_devices.specs.DeviceViews.{device_inner}
+use Rattle.gen1_devices.specs.Output.{device_inner}
 use Rattle.battle_commands.specs.declared.folder.Disk.{Disk}
 use Rattle.gen1_machine.specs.Lines.{joined}
 use Rattle.battle_input.specs.declared.fault.SheetFault.{SheetFault}

@@ -1,8 +1,7 @@
 //! The battle of an input, and what is done in it (docs/PROGRAM.md, "What is tested, in this order").
 ghost use Rattle.std.specs.Prelude.{◌+◌, ◌≡◌, ◌≤◌, ◌||◌, IfSome, false, length};
 ghost use Rattle.gen1_devices.specs.Input.{TakesAtMost};
-ghost use Rattle.battle_commands.specs.Answers.{is_read_fault, is_write_fault};
-ghost use Rattle.battle_commands.specs.Asked.{asked_of, Opens};
+ghost use Rattle.battle_commands.specs.Asked.{is_read_fault, is_write_fault, asked_of, Opens};
 
 use crate::fault::ToolFault;
 use crate::input::{INPUT_LIMIT, read_input};

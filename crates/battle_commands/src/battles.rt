@@ -4,9 +4,8 @@ ghost use Rattle.gen1_devices.specs.Input.{TakesAtMost};
 ghost use Rattle.gen1_machine.specs.Lines.{lines};
 ghost use Rattle.gen1_machine.specs.LogBytes.{codes_of};
 ghost use Rattle.gen1_machine.specs.State.{State};
-ghost use Rattle.gen1_layout.specs.Within.{Stands};
-ghost use Rattle.battle_commands.specs.Answers.{Answers, is_read_fault, is_write_fault};
-ghost use Rattle.battle_commands.specs.Due.{due_from, log_due, run_due};
+ghost use Rattle.gen1_layout.specs.Shows.{Stands};
+ghost use Rattle.battle_commands.specs.Asked.{Answers, is_read_fault, is_write_fault, due_from, log_due, run_due};
 
 use crate::asked_battle::read_bout;
 use crate::fault::ToolFault;

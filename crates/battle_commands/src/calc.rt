@@ -1,10 +1,9 @@
 //! The damage numbers that an input asks for (docs/PROGRAM.md, "calc").
 ghost use Rattle.std.specs.Prelude.{◌+◌, ◌≡◌, ◌≤◌, ◌||◌, length, IfSome};
 ghost use Rattle.gen1_devices.specs.Input.{TakesAtMost};
-ghost use Rattle.battle_commands.specs.Answers.{is_read_fault, is_write_fault};
+ghost use Rattle.battle_commands.specs.Asked.{is_read_fault, is_write_fault, Finds};
 ghost use Rattle.battle_input.specs.Sheets.{Gives, calc_sheet_of, input_of};
 ghost use Rattle.battle_commands.specs.Calc.{PrintsDamages, damages_due};
-ghost use Rattle.battle_commands.specs.Asked.{Finds};
 
 use crate::damage::damages;
 use crate::fault::ToolFault;

@@ -6,12 +6,10 @@ ghost use Rattle.clap.specs.Values.{kind_of};
 ghost use Rattle.clap.specs.Words.{Row, app_of, rule_of, with_subcommand};
 ghost use Rattle.clap.specs.declared.builder.command.Command.TheViews.{out-Command as fields_of};
 ghost use Rattle.battle_commands.specs.CommandLine.{AddsHelped, AskFor, Helps, HelpsAll, HelpsArg, explain_rule, faults, file_rule, names_file, reading, tool_app};
-ghost use Rattle.battle_commands.specs.Answers.{Answers, Tells, is_read_fault, is_write_fault, sent_to};
+ghost use Rattle.battle_commands.specs.Asked.{Answers, Tells, is_read_fault, is_write_fault, sent_to, log_due, room_due, run_due};
 ghost use Rattle.battle_commands.specs.Calc.{PrintsDamages, damages_due};
-ghost use Rattle.battle_commands.specs.Due.{log_due, room_due, run_due};
 ghost use Rattle.battle_commands.specs.Faults.{status_of, told_of};
-ghost use Rattle.battle_commands.specs.Served.{Ends, IsServed, IsUnheld, PrintsLog, Serves, given};
-ghost use Rattle.battle_commands.specs.Replies.{IsReply, Replies, RepliesTo, Says, said_or_usage, usage};
+ghost use Rattle.battle_commands.specs.Served.{Ends, IsServed, IsUnheld, PrintsLog, Serves, given, IsReply, Replies, RepliesTo, Says, said_or_usage, usage};
 
 use crate::battles::{play, play_log};
 use crate::calc::play_calc;

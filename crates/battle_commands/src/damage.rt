@@ -1,7 +1,6 @@
 //! The damage of a move between two members (docs/PROGRAM.md, "calc").
 ghost use Rattle.std.specs.Prelude.{[], ◌∷◌, ◌≡◌};
-ghost use Rattle.gen1_stats.specs.Sheets.{Sheet as MemberSheet};
-ghost use Rattle.gen1_stats.specs.Teams.{team_of};
+ghost use Rattle.gen1_stats.specs.Teams.{Sheet as MemberSheet, team_of};
 ghost use Rattle.battle_commands.specs.Calc.{damages_of};
 
 use crate::duel::begin_duel;

@@ -1,8 +1,7 @@
 //! A battle of two members, each just sent out (docs/PROGRAM.md, "calc").
 ghost use Rattle.std.specs.Prelude.{[], ◌∷◌, ◌≡◌};
-ghost use Rattle.gen1_stats.specs.Sheets.{Sheet as MemberSheet};
-ghost use Rattle.gen1_stats.specs.Teams.{member_of, team_of};
-ghost use Rattle.gen1_layout.specs.Within.{Setting, Within};
+ghost use Rattle.gen1_stats.specs.Teams.{Sheet as MemberSheet, member_of, team_of};
+ghost use Rattle.gen1_layout.specs.Shows.{Setting, Within};
 ghost use Rattle.battle_commands.specs.Calc.{duel};
 
 use gen1_layout::Packed;

@@ -1,7 +1,7 @@
 //! The input of a subcommand (docs/PROGRAM.md, "What is tested, in this order").
 ghost use Rattle.std.specs.Prelude.{◌+◌, ◌≡◌, ◌≤◌, ◌||◌, IfErr, IfOk, IfSome, vec_len};
 ghost use Rattle.gen1_devices.specs.Input.{TakesAtMost};
-ghost use Rattle.battle_commands.specs.Answers.{IsInputFault, is_read_fault};
+ghost use Rattle.battle_commands.specs.Asked.{IsInputFault, is_read_fault};
 
 use crate::fault::ToolFault;
 use gen1_machine::{InputFault, Source, read_whole};

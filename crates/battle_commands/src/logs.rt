@@ -1,7 +1,7 @@
 //! The lines of a log (docs/PROGRAM.md, "print").
 ghost use Rattle.std.specs.Prelude.{◌+◌, ◌≡◌, ◌||◌, IfSome};
 ghost use Rattle.gen1_devices.specs.Input.{TakesAtMost};
-ghost use Rattle.battle_commands.specs.Answers.{is_read_fault, is_write_fault};
+ghost use Rattle.battle_commands.specs.Asked.{is_read_fault, is_write_fault};
 ghost use Rattle.battle_commands.specs.Served.{PrintsLog};
 
 use crate::fault::ToolFault;

@@ -4,10 +4,9 @@ ghost use Rattle.gen1_devices.specs.Input.{TakesAtMost};
 ghost use Rattle.gen1_machine.specs.Lines.{joined, lines};
 ghost use Rattle.gen1_machine.specs.Room.{Course, after as follows, reply_to};
 ghost use Rattle.gen1_machine.specs.declared.event.Event.{Event as Told};
-ghost use Rattle.gen1_events.specs.Splits.{IsReading};
+ghost use Rattle.gen1_events.specs.Reader.{IsReading};
 ghost use Rattle.gen1_room.specs.Rooms.{Holds, submission_at, why_of};
-ghost use Rattle.battle_commands.specs.Answers.{Answers, is_read_fault, is_write_fault};
-ghost use Rattle.battle_commands.specs.Due.{only, pieces_of_refusal, replies_due, room_due, text_of_reply};
+ghost use Rattle.battle_commands.specs.Asked.{Answers, is_read_fault, is_write_fault, only, pieces_of_refusal, replies_due, room_due, text_of_reply};
 
 use crate::asked_battle::read_bout;
 use crate::fault::ToolFault;

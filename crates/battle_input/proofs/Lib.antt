@@ -1,3 +1,2 @@
 -- Reading JSON values.
 pub mod Reading
-pub mod Stops

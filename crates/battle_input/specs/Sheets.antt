@@ -7,7 +7,7 @@ use Rattle.serde_json.specs.Data.{Data, Items, no_items, item}
 use Rattle.serde_json.specs.Read.{read}
 use Rattle.serde_json.specs.Find.{as_array, as_number, as_str, as_u64, get, as_bool}
 use Rattle.gen1_tables.specs.Names.{species_named, move_named}
-use Rattle.gen1_stats.specs.Sheets.{Sheet as MemberSheet}
+use Rattle.gen1_stats.specs.Teams.{Sheet as MemberSheet}
 use Rattle.gen1_machine.specs.declared.side.Side.{Side}
 use Rattle.gen1_machine.specs.declared.side.Side.TheVariants.{One, Two}
 use Rattle.gen1_machine.specs.Rules.{Rules, no_rules, rules_of as rules_of_bits}

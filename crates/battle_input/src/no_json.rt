@@ -61,7 +61,7 @@ type Place = (Stand, u128);
 
 /// Returns the line and column in bytes, each from 1, of the first byte that JSON does not allow where it is; or of the end of the
 /// bytes, if it allows each of them. Numbers beyond the range of a double, and half surrogate pairs, are not looked for.
-#[tactic(auto, using(crate::proofs::Stops::stops_here, crate::proofs::Stops::stops_end, crate::proofs::Stops::stops_on))]
+#[tactic(auto, using(crate::proofs::Reading::stops_here, crate::proofs::Reading::stops_end, crate::proofs::Reading::stops_on))]
 pub(crate) fn no_json(input: &[u8]) -> JsonFault
     ensures { result ≡ no_json input.now }
 {

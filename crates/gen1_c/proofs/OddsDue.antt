@@ -8,21 +8,19 @@ use Rattle.gen1_machine.specs.Moves.{move_at, Move}
 use Rattle.gen1_machine.specs.Numbers.{side_number}
 use Rattle.gen1_machine.specs.State.{Field, State}
 use Rattle.gen1_machine.specs.Valid.{IsStarted, IsUnstarted}
-use Rattle.gen1_hits.specs.Factors.{damages}
-use Rattle.gen1_hits.specs.UsualDamage.{has_usual_damage}
+use Rattle.gen1_hits.specs.DamageNumbers.{damages, has_usual_damage}
 use Rattle.gen1_layout.specs.Parts.{Parts}
-use Rattle.gen1_layout.specs.Within.{Stands, Within, setting_of}
+use Rattle.gen1_layout.specs.Shows.{Stands, Within, setting_of}
 use Rattle.gen1_layout.proofs.Storing.{within_of}
 use Rattle.gen1_c.specs.Odds.{TellsDamages, damages_due, due_of, use_due, Tells}
 use Rattle.gen1_machine.specs.declared.choice.Choice.TheVariants.{Pass}
 use Rattle.gen1_machine.specs.Rules.{Rules}
 use Rattle.gen1_machine.specs.Step.{Accepted, Answer, Refused, step, Stepped}
-use Rattle.gen1_machine.proofs.FallenFaint.{Standing}
+use Rattle.gen1_machine.proofs.Fallen.{Standing}
 use Rattle.gen1_engine.specs.declared.result.BattleResult.{BattleResult}
 use Rattle.gen1_engine.specs.declared.result.Refusal.{Refusal}
 use Rattle.gen1_engine.specs.Update.{Answers, AnswersAs}
-use Rattle.gen1_room.proofs.Ending.{next_standing, not_refused, unbegun_offers}
-use Rattle.gen1_room.proofs.Counting.{step_accepts}
+use Rattle.gen1_room.proofs.Ending.{next_standing, not_refused, unbegun_offers, step_accepts}
 
 -- The expected damage numbers, and battles with active members.
 

@@ -2,8 +2,7 @@
 use Rattle.std.proofs.Common.{Bool, Err, List, None, Ok, Option, Result, Some, [], ap, append-nil, append_assoc, arith, drop, drop-cons, drop-set-lt, false, get_or, if◌then◌else◌, inl, inr, length, nat_le, refl, set, subst, suc, sym, take, true, ℕ, ◌&&◌, ◌++◌, ◌+◌, ◌<◌, ◌∙◌, ◌∷◌, ◌≡◌, ◌≤◌, ◌⊎◌}
 use Rattle.std.proofs.lemmas.List.{drop_all, get_or-map, length-map, take_all, take_at, take_more_set}
 use Rattle.gen1_stats.specs.Members.{IsTeam, Member}
-use Rattle.gen1_stats.specs.Sheets.{Sheet, least_sheet}
-use Rattle.gen1_stats.specs.Teams.{member_of, team_of}
+use Rattle.gen1_stats.specs.Teams.{Sheet, least_sheet, member_of, team_of}
 use Rattle.gen1_machine.specs.declared.choice.Choice.{Choice}
 use Rattle.gen1_machine.specs.declared.event.Event.{Event}
 use Rattle.gen1_machine.specs.declared.side.Side.{Side}
@@ -18,20 +17,18 @@ use Rattle.gen1_machine.specs.Ruling.{ruling_of}
 use Rattle.gen1_machine.specs.State.{Field, State, Terms, first_state, is_over}
 use Rattle.gen1_machine.specs.Step.{Accepted, Answer, Refusal, Refused, Stepped, answered, events_of, opened, run, run_by, step, update}
 use Rattle.gen1_machine.specs.Valid.{IsMembersUnder, IsStarted, IsState, IsUnstarted}
-use Rattle.gen1_events.specs.Splits.{IsReading}
-use Rattle.gen1_layout.specs.Loading.{IsLoadedAs}
-use Rattle.gen1_layout.specs.LoadingHeader.{version_three}
-use Rattle.gen1_layout.specs.LoadingMeaning.{IsBattle}
+use Rattle.gen1_events.specs.Reader.{IsReading}
+use Rattle.gen1_layout.specs.Loading.{IsLoadedAs, version_three}
+use Rattle.gen1_layout.specs.LoadingLaws.{IsBattle}
 use Rattle.gen1_layout.specs.Parts.{Parts, parts_of}
 use Rattle.gen1_layout.specs.declared.loading.LoadFault.{LoadFault}
-use Rattle.gen1_layout.specs.Within.{Stands}
-use Rattle.gen1_layout.proofs.Packing.{parts-bytes_of}
+use Rattle.gen1_layout.specs.Shows.{Stands}
+use Rattle.gen1_layout.proofs.WaysBack.{parts-bytes_of}
 use Rattle.gen1_engine.specs.Replay.{offers_if, or_pass, step_by_bytes}
-use Rattle.gen1_engine.proofs.Bytes.{step_of_choices}
-use Rattle.gen1_engine.proofs.Played.{accepted_offered}
-use Rattle.gen1_spectator.specs.Watching.{AreRead, joined}
+use Rattle.gen1_engine.proofs.Played.{step_of_choices, accepted_offered}
+use Rattle.gen1_spectator.specs.Following.{AreRead, joined}
 use Rattle.gen1_c.specs.Battle.{Loads, LoadsAs, teams_fault, Held, Logs, Offers, UpdatesAs, result_byte}
-use Rattle.gen1_c.specs.Fronts.{over_front}
+use Rattle.gen1_c.specs.Codes.{over_front}
 use Rattle.gen1_c.specs.TheTheorem.{IsLogged, after, called, calls_in, code_of, log_in, log_of, logs_in, stepped}
 use Rattle.gen1_c.specs.declared.the_theorem.Update.{Update}
 

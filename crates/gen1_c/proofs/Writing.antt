@@ -6,7 +6,7 @@ use Rattle.gen1_machine.specs.declared.choice.Choice.{Choice}
 use Rattle.gen1_machine.specs.Choices.{byte_of_choice}
 use Rattle.gen1_offers.specs.OfferedMask.{all_choices, chosen_by}
 use Rattle.gen1_offers.proofs.MaskChoices.{chosen-even, chosen-odd}
-use Rattle.gen1_offers.proofs.Digits.{equal_number}
+use Rattle.gen1_offers.proofs.MaskDigits.{equal_number}
 use Rattle.gen1_offers.proofs.OfferedSet.{other_number}
 use Rattle.gen1_c.specs.Battle.{IsWritten, Offers, move_words, switch_words}
 use Rattle.std.proofs.lemmas.Bool.Decides.{nat_tests}
@@ -15,7 +15,7 @@ use Rattle.gen1_tables.specs.Names.{move_name, species_name}
 use Rattle.gen1_machine.specs.declared.side.Side.{Side}
 use Rattle.gen1_machine.specs.State.{Field, known_in, member_at, member_in, party}
 use Rattle.gen1_c.proofs.OddsDue.{not_zero}
-use Rattle.gen1_c.specs.Fronts.{Room, Writes, WritesIf, ended, over_front}
+use Rattle.gen1_c.specs.Codes.{Room, Writes, WritesIf, ended, over_front}
 use Rattle.gen1_c.specs.Names.{Tells, numbered}
 use Rattle.gen1_machine.specs.declared.choice.Choice.TheVariants as choices
 

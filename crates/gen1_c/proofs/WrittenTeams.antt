@@ -1,8 +1,7 @@
 -- A struct that is made of members describes these members.
 use Rattle.std.proofs.Common.{Err, List, None, Ok, Option, Some, [], arith, get_or, length, map, refl, take, sym, ℕ, ◌≡◌, ◌∷◌, All, Result, ap, false, nat_le, nat_lt, subst, ◌&&◌, ◌+◌, ◌==◌, ◌≤◌, true}
 use Rattle.std.proofs.lemmas.List.{take-map}
-use Rattle.gen1_stats.specs.Sheets.{Sheet}
-use Rattle.gen1_stats.specs.Teams.{team_refusal}
+use Rattle.gen1_stats.specs.Teams.{Sheet, team_refusal}
 use Rattle.gen1_stats.specs.declared.refusal.TeamRefusal.{TeamRefusal}
 use Rattle.gen1_writer.specs.Written.{write_refusal}
 use Rattle.gen1_writer.specs.declared.fault.WriteFault.{WriteFault}

@@ -2,9 +2,9 @@
 use Rattle.std.specs.Prelude.{List, [], slice_index_or, ℕ, ◌<◌, ◌≡◌, ◌≢◌, ◌≤◌, ◌⊎◌, ◌∷◌, IsSome, None, Option, Some, false, if◌then◌else◌, length, ◌%◌, ◌+◌, ◌==◌, Err, Ok, Result}
 use Rattle.gen1_machine.specs.declared.side.Side.{Side}
 use Rattle.gen1_machine.specs.State.{State, is_over}
-use Rattle.gen1_layout.specs.LoadingMeaning.{StandsForSome}
+use Rattle.gen1_layout.specs.LoadingLaws.{StandsForSome}
 use Rattle.gen1_layout.specs.Parts.{Parts}
-use Rattle.gen1_layout.specs.Within.{Stands}
+use Rattle.gen1_layout.specs.Shows.{Stands}
 use Rattle.gen1_engine.specs.OfferedMask.{offered_mask}
 use Rattle.gen1_engine.specs.Replay.{step_by_bytes}
 use Rattle.gen1_c.specs.Battle.{AnsweredAs, IsResult, result_byte}

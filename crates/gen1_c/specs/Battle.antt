@@ -3,7 +3,7 @@ use Rattle.std.specs.Prelude.{Err, List, Ok, Result, if◌then◌else◌, nat_le
 use Rattle.gen1_layout.specs.Parts.{Parts}
 use Rattle.gen1_layout.specs.Loading.{IsLoadedAs}
 use Rattle.gen1_layout.specs.declared.loading.LoadFault.{LoadFault}
-use Rattle.gen1_c.specs.Codes.{load_code, refusal_code}
+use Rattle.gen1_c.specs.Codes.{load_code, refusal_code, over_front}
 use Rattle.gen1_c.specs.Teams.{team_fault}
 use Rattle.gen1_c.specs.declared.teams.TeamForm.{TeamForm}
 use Rattle.gen1_machine.specs.declared.choice.Choice.{Choice}
@@ -15,11 +15,10 @@ use Rattle.gen1_machine.specs.Numbers.{side_number}
 use Rattle.gen1_machine.specs.State.{Field, State, known_in, member_at, member_in, party}
 use Rattle.gen1_machine.specs.Step.{Accepted, Answer, Refused}
 use Rattle.gen1_events.specs.declared.front.Front.{Front}
-use Rattle.gen1_events.specs.Splits.{IsReading}
-use Rattle.gen1_layout.specs.Within.{Stands}
+use Rattle.gen1_events.specs.Reader.{IsReading}
+use Rattle.gen1_layout.specs.Shows.{Stands}
 use Rattle.gen1_engine.specs.Replay.{step_by_bytes}
 use Rattle.gen1_engine.specs.Update.{refusal_of}
-use Rattle.gen1_c.specs.Fronts.{over_front}
 use Rattle.gen1_tables.specs.Names.{move_name, species_name}
 use Rattle.gen1_machine.specs.declared.choice.Choice.TheVariants.{Move, Pass, Switch}
 use Rattle.gen1_words.specs.ChoiceWords.{choice_due}

@@ -1,5 +1,5 @@
 -- The codes of errors that the crates below count from 1 (include/gen1.h, "errors").
-use Rattle.std.specs.Prelude.{ℕ, ◌+◌, List, Option, Result, [], codes, if◌then◌else◌, nat_lt, ok_or, ◌-◌, ◌∷◌}
+use Rattle.std.specs.Prelude.{ℕ, ◌+◌, List, Option, Result, [], codes, if◌then◌else◌, nat_lt, ok_or, ◌-◌, ◌∷◌, Bool, Err, Ok, drop, false, length, true, ◌++◌, ◌≡◌}
 use Rattle.gen1_layout.specs.Loading.{number_of as test_number}
 use Rattle.gen1_layout.specs.declared.loading.LoadFault.{LoadFault}
 use Rattle.gen1_engine.specs.Update.{refusal_number}
@@ -186,3 +186,28 @@ sentence_at code =
 -- the sentence of a code; the code 42 if there is none
 abbrev pub sentence_due : ℕ → Result (List ℕ) ℕ
 sentence_due code = ok_or (sentence_at code) 42
+
+-- What is written to the beginning of a caller's memory (include/gen1.h, "playing", "telling", "naming").
+
+-- these at the beginning, and after them what was there
+abbrev pub over_front : {A : Type 0} → List A → List A → List A
+over_front front old = front ++ drop (length front) old
+
+-- a text and its final zero
+abbrev pub ended : List ℕ → List ℕ
+ended text = text ++ (0 ∷ [])
+
+-- a caller's buffer for a text, and where its length is to be written
+pub record Room : Type 0 where
+  pub bytes : List ℕ
+  pub count : ℕ
+
+-- if the text fits with its final zero both are at the beginning, and the text's length is written; otherwise the code is 41, and the buffer is as it was
+abbrev pub WritesIf : Bool → List ℕ → Room → Room → ℕ → Type 0
+WritesIf true text old new code = (code ≡ 0) × (new ≡ record { bytes = over_front (ended text) old.bytes; count = length text })
+WritesIf false text old new code = (code ≡ 41) × (new ≡ old)
+
+-- a text is written if it fits, and otherwise the code is 41; or the code says why there is none
+abbrev pub Writes : Result (List ℕ) ℕ → Room → Room → ℕ → Type 0
+Writes (Ok text) old new code = WritesIf (nat_lt (length text) (length old.bytes)) text old new code
+Writes (Err why) old new code = (code ≡ why) × (new ≡ old)

@@ -1,6 +1,6 @@
 -- The rows that a host takes, its replies as codes, and its result (include/gen1.h, "hosts").
 use Rattle.std.specs.Prelude.{Bool, None, Option, Some, if◌then◌else◌, not, ℕ, ◌*◌, ◌+◌, ◌==◌, ◌≡◌}
-use Rattle.gen1_rolls.specs.Link.{Ring, ring_of}
+use Rattle.gen1_rolls.specs.Steady.{Ring, ring_of}
 use Rattle.gen1_machine.specs.declared.side.Side.{Side}
 use Rattle.gen1_machine.specs.declared.side.Side.TheVariants.{One, Two}
 use Rattle.gen1_machine.specs.Layout.{outcome_byte, request_byte}

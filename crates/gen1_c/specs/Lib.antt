@@ -1,5 +1,3 @@
--- What is written to the beginning of a caller's memory.
-pub mod Fronts
 -- Codes, and their words.
 pub mod Codes
 -- Teams as plain structs, read from text, and random ones.

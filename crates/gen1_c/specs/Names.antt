@@ -9,7 +9,7 @@ use Rattle.gen1_tables.specs.Species.{base_of, species_row, types_of}
 use Rattle.gen1_tables.specs.Types.{number_of, rows_against, tenths_of}
 use Rattle.gen1_c.specs.declared.names.BaseForm.{BaseForm}
 use Rattle.gen1_c.specs.declared.names.MoveForm.{MoveForm}
-use Rattle.gen1_layout.specs.Decoding.{element_of}
+use Rattle.gen1_layout.specs.Parts.{element_of}
 use Rattle.gen1_stats.specs.Members.{Member, nobody}
 use Rattle.gen1_stats.specs.Teams.{team_of}
 use Rattle.gen1_c.specs.Odds.{one_fault}

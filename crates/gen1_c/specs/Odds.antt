@@ -20,8 +20,7 @@ use Rattle.gen1_c.specs.Battle.{teams_fault}
 use Rattle.gen1_c.specs.Teams.{fault_of_any, member_fault, sheet_of}
 use Rattle.gen1_c.specs.declared.teams.MemberForm.{MemberForm}
 use Rattle.gen1_machine.specs.Damage.{numbers_in}
-use Rattle.gen1_hits.specs.Factors.{damages}
-use Rattle.gen1_hits.specs.UsualDamage.{has_usual_damage}
+use Rattle.gen1_hits.specs.DamageNumbers.{damages, has_usual_damage}
 
 -- the side and the move of a use; or a code: not a move, no active member yet
 unfoldable pub use_due : Side → ℕ → Field → Result (Side × ℕ) ℕ

@@ -4,12 +4,11 @@ use Rattle.gen1_machine.specs.Rules.{rules_of}
 use Rattle.gen1_machine.specs.declared.event.Event.{Event}
 use Rattle.gen1_events.specs.declared.fault.LogFault.{LogFault}
 use Rattle.gen1_events.specs.Faults.{number_of}
-use Rattle.gen1_events.specs.Reader.{Breaks}
-use Rattle.gen1_events.specs.Splits.{IsReading, Splits}
+use Rattle.gen1_events.specs.Reader.{Breaks, IsReading, Splits}
 use Rattle.gen1_player.specs.declared.player.PlayerTerms.{PlayerTerms}
 use Rattle.gen1_player.specs.declared.teller.Teller.{Teller}
 use Rattle.gen1_player.specs.Telling.{HasFault, form_number, form_of, meets_all, told_all}
-use Rattle.gen1_c.specs.Fronts.{over_front}
+use Rattle.gen1_c.specs.Codes.{over_front}
 use Rattle.gen1_c.specs.declared.players.PlayerTermsForm.{PlayerTermsForm}
 use Rattle.gen1_stats.specs.Teams.{team_of}
 use Rattle.gen1_guesses.specs.declared.fault.GuessFault.{GuessFault}

@@ -2,8 +2,7 @@
 use Rattle.std.specs.Prelude.{List, None, Option, Some, [], if◌then◌else◌, map, nat_le, nat_lt, slice_index, take, ℕ, ◌&&◌, ◌*◌, ◌++◌, ◌+◌, ◌==◌, ◌∷◌, Err, Ok, Result, length, replicate, slice_index_or, ◌≡◌}
 use Rattle.std.specs.List.{list_any}
 use Rattle.gen1_stats.specs.Refusals.{number_of, place_of, number_of as rule_of}
-use Rattle.gen1_stats.specs.Sheets.{Sheet}
-use Rattle.gen1_stats.specs.Teams.{team_refusal}
+use Rattle.gen1_stats.specs.Teams.{Sheet, team_refusal}
 use Rattle.gen1_stats.specs.declared.refusal.TeamRefusal.{TeamRefusal}
 use Rattle.gen1_stats.specs.declared.refusal.TeamRefusal.TheVariants.{TooMany}
 use Rattle.gen1_c.specs.declared.teams.MemberForm.{MemberForm}

@@ -12,16 +12,14 @@ use Rattle.gen1_machine.specs.Rules.{rules_of}
 use Rattle.gen1_machine.specs.State.{State, Terms, first_state}
 use Rattle.gen1_machine.specs.Step.{Accepted, Answer, Refused, Stepped, events_of, run}
 use Rattle.gen1_machine.specs.View.{shows}
-use Rattle.gen1_events.specs.Reader.{part}
-use Rattle.gen1_events.specs.Splits.{IsReading}
+use Rattle.gen1_events.specs.Reader.{part, IsReading}
 use Rattle.gen1_engine.specs.Replay.{step_by_bytes}
 use Rattle.gen1_engine.specs.Update.{refusal_of}
 use Rattle.gen1_spectator.specs.Plain.{reading_of, view_of}
-use Rattle.gen1_spectator.specs.Watching.{AreRead, joined}
+use Rattle.gen1_spectator.specs.Following.{AreRead, joined}
 use Rattle.gen1_spectator.specs.declared.plain.PlainSpectator.{PlainSpectator}
 use Rattle.gen1_c.specs.Battle.{new_fault, result_byte}
-use Rattle.gen1_c.specs.Codes.{refusal_code}
-use Rattle.gen1_c.specs.Fronts.{over_front}
+use Rattle.gen1_c.specs.Codes.{refusal_code, over_front}
 use Rattle.gen1_c.specs.Teams.{sheets_of}
 use Rattle.gen1_c.specs.declared.the_theorem.Beginning.{Beginning}
 use Rattle.gen1_c.specs.declared.the_theorem.Update.{Update}

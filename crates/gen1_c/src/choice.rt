@@ -6,9 +6,9 @@ ghost use Rattle.gen1_machine.specs.Numbers.{side_number};
 ghost use Rattle.gen1_machine.specs.State.{State};
 ghost use Rattle.gen1_machine.specs.declared.choice.Choice.{Choice};
 ghost use Rattle.gen1_machine.specs.declared.side.Side.{Side};
-ghost use Rattle.gen1_layout.specs.Within.{Stands};
+ghost use Rattle.gen1_layout.specs.Shows.{Stands};
 ghost use Rattle.gen1_c.specs.Battle.{IsNoSide, byte_read, kind_of_choice, move_words, slot_of_choice, switch_words, words_due};
-ghost use Rattle.gen1_c.specs.Fronts.{Writes, over_front};
+ghost use Rattle.gen1_c.specs.Codes.{Writes, over_front};
 ghost use Rattle.gen1_c.specs.Names.{Tells};
 
 use crate::codes::{AMBIGUOUS, CHOICE, NOBODY, NOT_OFFERED, SIDE, SMALL_TEXT, WORDS};

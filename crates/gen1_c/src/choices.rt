@@ -6,7 +6,7 @@ ghost use Rattle.gen1_machine.specs.OfferedChoices.{offered};
 ghost use Rattle.gen1_machine.specs.State.{State};
 ghost use Rattle.gen1_machine.specs.declared.choice.Choice.{Choice};
 ghost use Rattle.gen1_machine.specs.declared.side.Side.{Side};
-ghost use Rattle.gen1_layout.specs.Within.{Stands};
+ghost use Rattle.gen1_layout.specs.Shows.{Stands};
 ghost use Rattle.gen1_offers.specs.OfferedMask.{all_choices, choices_in, chosen_by};
 ghost use Rattle.gen1_c.specs.Battle.{IsNoSide, IsWritten, Offers};
 

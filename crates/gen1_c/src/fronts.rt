@@ -1,6 +1,6 @@
 //! Writing to the beginning of a caller's memory (include/gen1.h, "playing", "telling", "naming").
 ghost use Rattle.std.specs.Prelude.{Ok, length, ◌<◌, ◌≡◌, ◌≢◌, ◌≤◌};
-ghost use Rattle.gen1_c.specs.Fronts.{Writes, ended, over_front};
+ghost use Rattle.gen1_c.specs.Codes.{Writes, ended, over_front};
 
 use crate::codes::SMALL_TEXT;
 

@@ -1,12 +1,11 @@
 //! A battle that fits what a player knows (include/gen1.h, "players"; docs/MECHANICS.md, "A battle that fits").
 ghost use Rattle.std.specs.Prelude.{IfErr, IfOk, ◌↔◌, ◌≡◌, ◌≢◌, ◌≤◌};
-ghost use Rattle.gen1_layout.specs.LoadingMeaning.{IsBattle, StandsForSome};
+ghost use Rattle.gen1_layout.specs.LoadingLaws.{IsBattle, StandsForSome};
 ghost use Rattle.gen1_layout.specs.Parts.{parts_of};
 ghost use Rattle.gen1_guesses.specs.Forks.{guessed_state};
 ghost use Rattle.gen1_guesses.specs.declared.fault.GuessFault.TheVariants as faults;
 ghost use Rattle.gen1_states.specs.Bytes.{bytes_of};
-ghost use Rattle.gen1_states.specs.Completed.{completed};
-ghost use Rattle.gen1_states.specs.WholeTests.{fault_of};
+ghost use Rattle.gen1_states.specs.Tests.{completed, fault_of};
 ghost use Rattle.gen1_c.specs.Players.{code_of, fault_form_of, guess_form, guess_of, no_state_fault};
 ghost use Rattle.gen1_c.specs.Teams.{team_fault};
 

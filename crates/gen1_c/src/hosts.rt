@@ -3,7 +3,7 @@ ghost use Rattle.std.specs.Prelude.{None, Some, drop, option_map, replicate, ◌
 ghost use Rattle.gen1_machine.specs.Numbers.{side_number};
 ghost use Rattle.gen1_machine.specs.State.{State};
 ghost use Rattle.gen1_machine.specs.declared.side.Side.{Side};
-ghost use Rattle.gen1_layout.specs.Within.{Stands};
+ghost use Rattle.gen1_layout.specs.Shows.{Stands};
 ghost use Rattle.gen1_host.specs.Hosts.{Hosts, IsNotice, IsSent, IsWithin, awaited_mask, first_table, result_at, row_at};
 ghost use Rattle.gen1_host.specs.Loading.{IsHost, IsStored, in_version_three};
 ghost use Rattle.gen1_host.specs.Messages.{message as message_at, notice as notice_at};

@@ -1,9 +1,9 @@
 //! Names of species, moves and types, their rows of the tables, and a member's stats (include/gen1.h, "naming"; docs/TABLES.md;
 //! docs/MECHANICS.md, "Stats").
 ghost use Rattle.std.specs.Prelude.{None, Some, if◌then◌else◌, map, nat_le, unwrap_or, ◌*◌, ◌+◌, ◌≡◌};
-ghost use Rattle.gen1_layout.specs.Decoding.{element_of};
+ghost use Rattle.gen1_layout.specs.Parts.{element_of};
 ghost use Rattle.gen1_text.specs.Ids.{move_called, species_called};
-ghost use Rattle.gen1_c.specs.Fronts.{Writes};
+ghost use Rattle.gen1_c.specs.Codes.{Writes};
 ghost use Rattle.gen1_c.specs.Names.{Tells, base_due, base_row, effectiveness_due, move_due, move_text, row_of_move, species_text, stats_due, stats_of, type_names, type_text};
 
 use crate::codes::UNKNOWN;

@@ -5,7 +5,7 @@ ghost use Rattle.gen1_machine.specs.Numbers.{side_number};
 ghost use Rattle.gen1_machine.specs.State.{State};
 ghost use Rattle.gen1_machine.specs.declared.side.Side.{Side};
 ghost use Rattle.gen1_machine.specs.declared.side.Side.TheVariants.{One};
-ghost use Rattle.gen1_layout.specs.Within.{Stands};
+ghost use Rattle.gen1_layout.specs.Shows.{Stands};
 ghost use Rattle.gen1_odds.specs.KnockOut.{AreChances, AreThree};
 ghost use Rattle.gen1_odds.specs.Odds.{IsListed};
 ghost use Rattle.gen1_c.specs.Odds.{Tells, action_odds_due, between_fault, chances_due, drained_due, facing, hit_test_due, odds_due, odds_of_state, recoil_due, three_chances_due, use_due};

@@ -6,7 +6,7 @@ ghost use Rattle.gen1_machine.specs.State.{State};
 ghost use Rattle.gen1_machine.specs.declared.side.Side.{Side};
 ghost use Rattle.gen1_machine.specs.Numbers.{side_number};
 ghost use Rattle.gen1_events.specs.declared.fault.LogFault.{LogFault};
-ghost use Rattle.gen1_layout.specs.Within.{Stands};
+ghost use Rattle.gen1_layout.specs.Shows.{Stands};
 ghost use Rattle.gen1_player.specs.OwnSide.{IsListed, own_side, plain_side};
 ghost use Rattle.gen1_player.specs.Player.{IsFed, IsPlayer, Shown, not_shown, player_of};
 ghost use Rattle.gen1_c.specs.Players.{BreaksOff, Tells, begin_code, first_teller, log_code, side_code, terms_code, terms_of};

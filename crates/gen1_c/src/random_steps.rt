@@ -2,7 +2,7 @@
 ghost use Rattle.std.specs.Prelude.{Option, Some, length, ◌≡◌, ◌≢◌, ◌≤◌};
 ghost use Rattle.gen1_machine.specs.Choices.{byte_of_choice, choice_at};
 ghost use Rattle.gen1_machine.specs.State.{State};
-ghost use Rattle.gen1_layout.specs.Within.{Stands};
+ghost use Rattle.gen1_layout.specs.Shows.{Stands};
 ghost use Rattle.gen1_playouts.specs.Playouts.{begun};
 ghost use Rattle.gen1_c.specs.Batches.{AreListed, AreStepped, HasLengths, IsAt, IsListed, IsStart, IsStepped, one_if_over, over_in, started_again};
 

@@ -3,8 +3,8 @@
 ghost use Rattle.std.specs.Prelude.{◌<◌, ◌≡◌, ◌≢◌, ◌≤◌};
 ghost use Rattle.gen1_machine.specs.State.{State};
 ghost use Rattle.gen1_engine.specs.Reseed.{reseeded};
-ghost use Rattle.gen1_layout.specs.LoadingMeaning.{StandsForSome};
-ghost use Rattle.gen1_layout.specs.Within.{Stands};
+ghost use Rattle.gen1_layout.specs.LoadingLaws.{StandsForSome};
+ghost use Rattle.gen1_layout.specs.Shows.{Stands};
 ghost use Rattle.gen1_playouts.specs.Playouts.{numbers_from};
 
 use crate::codes::INDEX;

@@ -4,7 +4,7 @@ ghost use Rattle.gen1_machine.specs.Numbers.{side_number};
 ghost use Rattle.gen1_machine.specs.Room.{Course, after, reply_to, room_of};
 ghost use Rattle.gen1_machine.specs.State.{State, is_over};
 ghost use Rattle.gen1_machine.specs.declared.side.Side.{Side};
-ghost use Rattle.gen1_layout.specs.Within.{Stands};
+ghost use Rattle.gen1_layout.specs.Shows.{Stands};
 ghost use Rattle.gen1_room.specs.Rooms.{IsMarked, Keeps, due, submission_of, why_of};
 ghost use Rattle.gen1_c.specs.Rooms.{ForfeitsAs, lost_byte, reply_code, why_code};
 ghost use Rattle.gen1_c.specs.Battle.{IsNoSide, IsResult, Offers, result_byte};

@@ -3,10 +3,9 @@ ghost use Rattle.std.specs.Prelude.{None, Ok, length, take, ◌≡◌, ◌≤◌
 ghost use Rattle.gen1_stats.specs.Teams.{team_of};
 ghost use Rattle.gen1_text.specs.Packed.{members_packed, team_packed};
 ghost use Rattle.gen1_text.specs.Texts.{members_told, team_told};
-ghost use Rattle.gen1_writer.specs.Export.{text_of};
-ghost use Rattle.gen1_writer.specs.PackedLine.{packed_of};
+ghost use Rattle.gen1_writer.specs.Export.{text_of, packed_of};
 ghost use Rattle.gen1_writer.specs.Written.{write_refusal};
-ghost use Rattle.gen1_c.specs.Fronts.{Writes};
+ghost use Rattle.gen1_c.specs.Codes.{Writes};
 ghost use Rattle.gen1_c.specs.Teams.{TellsTeam, code_of, expected, form_of, member_at, member_of, move_at, number_fault, of_packed, of_team, of_text, of_write, packed_due, sheets_of, team_due, text_due, written_due};
 
 use crate::codes::{TEXT_FIELDS, TEXT_SEVENTH_MEMBER, TEXT_TEAM, UNWRITABLE};

@@ -1,8 +1,7 @@
 //! A code in words (include/gen1.h, "errors").
 ghost use Rattle.std.specs.Prelude.{map, option_map, ◌≡◌};
 ghost use Rattle.std.specs.List.{slice_get};
-ghost use Rattle.gen1_c.specs.Fronts.{Writes};
-ghost use Rattle.gen1_c.specs.Codes.{sentence_at, sentence_due};
+ghost use Rattle.gen1_c.specs.Codes.{Writes, sentence_at, sentence_due};
 
 use crate::codes::UNKNOWN;
 use crate::fronts::write_text;

@@ -1,13 +1,12 @@
 //! The state that a battle's bytes represent, as plain structs, and back (include/gen1.h, "looking").
 ghost use Rattle.std.specs.Prelude.{All, ◌↔◌, ◌≡◌, ◌≢◌};
-ghost use Rattle.gen1_layout.specs.LoadingMeaning.{IsBattle, StandsForSome};
+ghost use Rattle.gen1_layout.specs.LoadingLaws.{IsBattle, StandsForSome};
 ghost use Rattle.gen1_layout.specs.Parts.{parts_of};
-ghost use Rattle.gen1_layout.specs.Within.{Stands};
+ghost use Rattle.gen1_layout.specs.Shows.{Stands};
 ghost use Rattle.gen1_machine.specs.State.{State};
 ghost use Rattle.gen1_states.specs.Bytes.{bytes_of};
-ghost use Rattle.gen1_states.specs.Completed.{completed};
+ghost use Rattle.gen1_states.specs.Tests.{completed, fault_of};
 ghost use Rattle.gen1_states.specs.Reading.{HasKinds, IsCopied, state_of};
-ghost use Rattle.gen1_states.specs.WholeTests.{fault_of};
 ghost use Rattle.gen1_c.specs.Battle.{fault_form};
 
 use crate::codes::STATE;

@@ -1,7 +1,7 @@
 //! Sinks and sources over std's writers and readers. They remember whether a read or write has failed
 //! (docs/PROGRAM.md, "Faults and statuses").
 ghost use Rattle.std.specs.Prelude.{◌≡◌, false};
-ghost use Rattle.gen1_devices.specs.DeviceViews.{device_failed, device_inner};
+ghost use Rattle.gen1_devices.specs.Output.{device_failed, device_inner};
 
 use crate::{DeviceFault, Sink, Source};
 use std::io::{Read, Write};

@@ -3,7 +3,7 @@
 ghost use Rattle.std.specs.Prelude.{◌≡◌, ◌||◌, ℕ, List, Bool, Option, None, is_err};
 ghost use Rattle.std.specs.Io.{ReadsAtMost, WritesAtMost};
 ghost use Rattle.std.specs.Io.KnownBytes.{ReadConsumes, WriteAppends};
-ghost use Rattle.gen1_devices.specs.Devices.{write_fails};
+ghost use Rattle.gen1_devices.specs.Output.{write_fails};
 
 /// A device refused a read or a write.
 #[derive(Clone, Copy, Debug, PartialEq, Eq, Drop)]

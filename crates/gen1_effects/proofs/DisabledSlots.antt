@@ -5,14 +5,14 @@ use Rattle.std.proofs.Common.{All, slice_index_or, add-zero, get_or, if◌then�
 use Rattle.gen1_stats.specs.declared.known_move.KnownMove.{KnownMove}
 use Rattle.gen1_stats.specs.Members.{nothing_known}
 use Rattle.gen1_rolls.specs.declared.look.Look.TheVariants.{Remainder}
-use Rattle.gen1_rolls.specs.Looks.{sees}
+use Rattle.gen1_rolls.specs.Streams.{sees}
 use Rattle.gen1_machine.specs.declared.event.Volatile.TheVariants as volatiles
 use Rattle.gen1_machine.specs.Conditions.{with_disabled}
 use Rattle.gen1_machine.specs.Progress.{fail, fails_if, starts}
 use Rattle.gen1_machine.specs.Sides.{other}
 use Rattle.gen1_machine.specs.SideEffects.{disable_for, disable_slot, has_pp, names_slot}
 use Rattle.gen1_hits.proofs.Knowledge.{stops-then}
-use Rattle.gen1_status.proofs.Comparing.{below, not_below}
+use Rattle.gen1_status.proofs.Statuses.{below, not_below}
 
 either_pp : (a b : ℕ) → nat_lt 0 (a + b) ≡ (nat_lt 0 a || nat_lt 0 b)
 either_pp a b = elim (some a) [

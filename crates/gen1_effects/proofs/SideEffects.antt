@@ -1,21 +1,21 @@
 -- What a move may do in addition to its damage, by the way of its effect, and conditions without a number that begin.
-use Rattle.std.proofs.Common.{◌&&◌, ◌≡◌}
-use Rattle.gen1_layout.proofs.Words.{ActiveConditions, Bool, Frame, Parts, Phase, Progress, Shows, Side, Telling, false, if_not, if_so, refl, stay, stays, true}
+use Rattle.std.proofs.Common.{◌&&◌, ◌≡◌, refl}
+use Rattle.gen1_layout.proofs.Words.{Bool, Frame, Parts, Phase, Progress, Shows, Side, Telling, false, if_not, if_so, stay, stays, true}
 use Rattle.gen1_tables.specs.declared.effect.Effect.{Effect}
-use Rattle.gen1_tables.specs.declared.effect.Effect.TheVariants as effects
 use Rattle.gen1_machine.specs.declared.health.Kind.{Kind}
-use Rattle.gen1_machine.specs.declared.health.Kind.TheVariants as kinds
-use Rattle.gen1_machine.specs.Conditions.{with_flinch, with_recharge}
+use Rattle.gen1_machine.specs.Conditions.{with_flinch, with_recharge, with_focus_energy, with_light_screen, with_mist, with_reflect, with_seed, ActiveConditions}
 use Rattle.gen1_machine.specs.Moves.{Move}
 use Rattle.gen1_machine.specs.Progress.{inflict}
 use Rattle.gen1_machine.specs.Ruling.{freeze_freely, freeze_only_one, freezes_under, has_frozen_member, Ruling}
 use Rattle.gen1_machine.specs.Sides.{other}
 use Rattle.gen1_machine.specs.SideEffects.{disable, kept_away_effect, may_confuse, must_recharge, side_effect}
-use Rattle.gen1_layout.specs.Flags.{SameNumbers}
-use Rattle.gen1_status.specs.Infliction.{status_of_kind}
+use Rattle.gen1_layout.specs.Words.{SameNumbers}
+use Rattle.gen1_status.specs.Statuses.{status_of_kind}
 use Rattle.gen1_effects.specs.declared.side_effects.Way.{Way}
-use Rattle.gen1_effects.specs.declared.side_effects.Way.TheVariants as ways
 use Rattle.gen1_effects.specs.SideEffects.{afflict, harm_of, harms, harms_unless_away, is_freeze, way_of}
+use Rattle.gen1_tables.specs.declared.effect.Effect.TheVariants as effects
+use Rattle.gen1_machine.specs.declared.health.Kind.TheVariants as kinds
+use Rattle.gen1_effects.specs.declared.side_effects.Way.TheVariants as ways
 
 abbrev pub way_phase : Ruling → Side → Move → Way → Phase
 way_phase r s move (ways.Confuse n) = may_confuse s n
@@ -81,3 +81,25 @@ module _ {g : Frame} {parts : Parts} {events : Telling} where
   unfolding freezes_under freeze_only_one
   freezes true s p e h = if_not (has_frozen_member (other s)) stay (freeze_freely s) e h
   freezes false s p e h = h
+
+-- Setting a condition without a number keeps all numbers.
+
+pub mist-same : (c : ActiveConditions) → SameNumbers (with_mist c) c
+unfolding with_mist
+mist-same c = record { bide = refl; thrash = refl; trapping = refl; confused = refl; substitute = refl; bad_poison = refl; disabled = refl }
+
+pub focus_energy-same : (c : ActiveConditions) → SameNumbers (with_focus_energy c) c
+unfolding with_focus_energy
+focus_energy-same c = record { bide = refl; thrash = refl; trapping = refl; confused = refl; substitute = refl; bad_poison = refl; disabled = refl }
+
+pub light_screen-same : (c : ActiveConditions) → SameNumbers (with_light_screen c) c
+unfolding with_light_screen
+light_screen-same c = record { bide = refl; thrash = refl; trapping = refl; confused = refl; substitute = refl; bad_poison = refl; disabled = refl }
+
+pub reflect-same : (c : ActiveConditions) → SameNumbers (with_reflect c) c
+unfolding with_reflect
+reflect-same c = record { bide = refl; thrash = refl; trapping = refl; confused = refl; substitute = refl; bad_poison = refl; disabled = refl }
+
+pub seed-same : (c : ActiveConditions) → SameNumbers (with_seed c) c
+unfolding with_seed
+seed-same c = record { bide = refl; thrash = refl; trapping = refl; confused = refl; substitute = refl; bad_poison = refl; disabled = refl }

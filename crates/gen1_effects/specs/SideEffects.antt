@@ -10,7 +10,7 @@ use Rattle.gen1_machine.specs.Progress.{given, draw_until, has_substitute, infli
 use Rattle.gen1_machine.specs.Ruling.{Ruling}
 use Rattle.gen1_machine.specs.SideEffects.{by_chance, disable_slot, flinch, may_inflict, may_poison, names_slot}
 use Rattle.gen1_machine.specs.StageShift.{lower_stage}
-use Rattle.gen1_status.specs.Infliction.{status_of_kind}
+use Rattle.gen1_status.specs.Statuses.{status_of_kind}
 use Rattle.gen1_effects.specs.declared.side_effects.Harm.{Harm}
 use Rattle.gen1_effects.specs.declared.side_effects.Harm.TheVariants as harm
 use Rattle.gen1_effects.specs.declared.side_effects.Way.{Way}

@@ -6,9 +6,8 @@ ghost use Rattle.gen1_layout.specs.Operations.{DrawsWhere, holding, scene};
 ghost use Rattle.gen1_layout.specs.Words.{AddsAtMost, HasRoom, move_at, stop, true, ◌▸◌};
 ghost use Rattle.gen1_tables.specs.Effects.{bides};
 ghost use Rattle.gen1_machine.specs.LateEffects.{is_late, late_effect};
-ghost use Rattle.gen1_hits.specs.Alone.{Leaves, beginning};
-ghost use Rattle.gen1_hits.specs.Knowing.{aware};
-ghost use Rattle.gen1_status.specs.Bide.{IsUntied};
+ghost use Rattle.gen1_hits.specs.Knowing.{Leaves, beginning, aware};
+ghost use Rattle.gen1_status.specs.Gate.{IsUntied};
 
 use gen1_events::EventSink;
 use gen1_hits::Known;

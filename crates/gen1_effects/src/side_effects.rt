@@ -4,8 +4,7 @@ ghost use Rattle.gen1_rolls.specs.Draws.{Steps};
 ghost use Rattle.gen1_layout.specs.Operations.{DrawsWhere, anything, scene};
 ghost use Rattle.gen1_layout.specs.Words.{AddsAtMost, HasRoom, false, move_at};
 ghost use Rattle.gen1_machine.specs.SideEffects.{side_effect};
-ghost use Rattle.gen1_hits.specs.Knowing.{IsUncounted, aware};
-ghost use Rattle.gen1_hits.specs.Alone.{Leaves, beginning};
+ghost use Rattle.gen1_hits.specs.Knowing.{IsUncounted, aware, Leaves, beginning};
 ghost use Rattle.gen1_effects.specs.SideEffects.{harm_of, harms, harms_unless_away, way_of};
 
 mod chance;

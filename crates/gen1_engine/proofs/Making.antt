@@ -1,29 +1,38 @@
 -- Which update a pair of offered choices is, what the machine does in it, and which pairs are refused.
-use Rattle.std.proofs.Common.{Bool, Some, ap, arith, false, inl, inr, refl, subst, sym, true, ◌∙◌, ◌≡◌, ◌≤◌, ◌⊎◌}
+use Rattle.std.proofs.Common.{Bool, Some, ap, arith, false, inl, inr, refl, subst, sym, true, ◌∙◌, ◌≡◌, ◌≤◌, ◌⊎◌, Err, List, None, Ok, Option, ℕ, Result, [], ◌+◌, ◌∷◌}
 use Rattle.gen1_machine.specs.declared.side.Side.{Side}
 use Rattle.gen1_machine.specs.declared.side.Side.TheVariants.{One, Two}
 use Rattle.gen1_machine.specs.declared.terms.Outcome.{Outcome}
-use Rattle.gen1_machine.specs.declared.terms.Outcome.TheVariants as outcomes
-use Rattle.gen1_machine.specs.declared.terms.Request.TheVariants as requests
 use Rattle.gen1_machine.specs.declared.choice.Choice.{Choice}
-use Rattle.gen1_machine.specs.declared.choice.Choice.TheVariants as choices
 use Rattle.gen1_machine.specs.State.{Field, State, Terms, has_fallen_in, is_over}
 use Rattle.gen1_machine.specs.Progress.{Progress}
 use Rattle.gen1_machine.specs.Ruling.{ruling_of}
 use Rattle.gen1_machine.specs.Turn.{turn}
 use Rattle.gen1_machine.specs.OfferedChoices.{offered}
-use Rattle.gen1_machine.specs.Step.{Accepted, Answer, NotOffered, Refused, Stepped, accepted, answered, close_update, offers, opened, step, step_by, update, update_for}
+use Rattle.gen1_machine.specs.Step.{Accepted, Answer, NotOffered, Refused, Stepped, accepted, answered, close_update, offers, opened, step, step_by, update, update_for, Refusal as Reason, run, run_by}
 use Rattle.gen1_machine.specs.Valid.{IsAsked, IsStarted, IsState, IsUnstarted, StandsAs}
-use Rattle.gen1_machine.proofs.Bounds.{step_is_bounded}
+use Rattle.gen1_machine.proofs.TurnCosts.{step_is_bounded}
 use Rattle.gen1_layout.specs.Parts.{Parts}
-use Rattle.gen1_layout.specs.Shows.{Telling}
-use Rattle.gen1_layout.specs.Within.{Stands, Within, setting_of}
+use Rattle.gen1_layout.specs.Shows.{Telling, Stands, Within, setting_of}
 use Rattle.gen1_switching.specs.Updates.{Plays, Starts, Steps}
 use Rattle.gen1_switching.proofs.Stepped.{step_accepts, valid-after}
 use Rattle.gen1_engine.specs.declared.result.Refusal.{Refusal}
-use Rattle.gen1_engine.specs.declared.result.Refusal.TheVariants as refusals
 use Rattle.gen1_engine.specs.Replay.{IsRefused}
-use Rattle.gen1_engine.specs.Update.{AreOffered, IsBounded, IsBoundedAs, Tests}
+use Rattle.gen1_engine.specs.Update.{AreOffered, IsBounded, IsBoundedAs, Tests, Answers, AnswersAs, Logs, LogsAs, Tells, ToldAs, refusal_of, result_of}
+use Rattle.arrayvec.specs.ArrayVec.{ArrayVec}
+use Rattle.gen1_machine.specs.declared.event.Event.{Event}
+use Rattle.gen1_events.specs.Reader.{IsReading}
+use Rattle.gen1_engine.specs.declared.result.BattleResult.{BattleResult}
+use Rattle.std.specs.Prelude.{cond, count_by, is_ok}
+use Rattle.std.proofs.lemmas.List.Sums.{sum_by-cons}
+use Rattle.gen1_machine.specs.Laws.{accepted_in, is_accepted}
+use Rattle.gen1_machine.proofs.Runs.{refusal_changes_nothing}
+use Rattle.gen1_machine.proofs.RunsEnd.{runs_end}
+use Rattle.gen1_engine.specs.Calls.{CallsAreTheRun, CallsEnd, OfferedIsAccepted, UpdatesAll}
+use Rattle.gen1_machine.specs.declared.terms.Outcome.TheVariants as outcomes
+use Rattle.gen1_machine.specs.declared.terms.Request.TheVariants as requests
+use Rattle.gen1_machine.specs.declared.choice.Choice.TheVariants as choices
+use Rattle.gen1_engine.specs.declared.result.Refusal.TheVariants as refusals
 
 -- if something is offered, the battle continues
 pub goes_on : (s : State) (side : Side) (c : Choice) → offers s side c ≡ true → s.field.outcome ≡ outcomes.Ongoing
@@ -170,3 +179,100 @@ bounded s one two = by (step s one two).answer refl
     by : (a : Answer) → (step s one two).answer ≡ a → IsBoundedAs s a (step s one two).state
     by (Refused why) e = tt
     by (Accepted events) e = step_is_bounded s one two events e
+
+-- What an update returned, by the answer of the machine's step.
+
+-- a refused pair
+
+pub answers_refused : (s : State) (one two : Choice) (p : Parts) (why : Refusal) → Tests s one two (Some why) → Answers s one two p p (Err why)
+answers_refused s one two p why (reason, is, e) = rw e (ap Err is, refl)
+
+pub tells_refused : (s : State) (one two : Choice) (events : ArrayVec Event) (why : Refusal) → Tests s one two (Some why) → Tells s one two events events
+tells_refused s one two events why (reason, is, e) = rw e refl
+
+pub logs_refused : (s : State) (one two : Choice) (log : ArrayVec ℕ) (why : Refusal) → Tests s one two (Some why) → Logs s one two log log
+logs_refused s one two log why (reason, is, e) = rw e refl
+
+-- an accepted one
+
+pub answers_accepted : {s : State} {one two : Choice} {new : Parts} {events : Telling} (old : Parts) (result : BattleResult) → Steps s one two new events
+    → result ≡ result_of (step s one two).state → Answers s one two old new (Ok result)
+answers_accepted old result h e = rw h.answers (ap Ok e, h.stands)
+
+pub tells_accepted : {s : State} {one two : Choice} {new : Parts} (old events : ArrayVec Event) → Steps s one two new (λ told. events.items ≡ told) → Tells s one two old events
+tells_accepted old events h = rw h.answers h.written
+
+pub logs_accepted : {s : State} {one two : Choice} {new : Parts} (old log : ArrayVec ℕ) → Steps s one two new (λ told. IsReading log.items told) → Logs s one two old log
+logs_accepted old log h = rw h.answers h.written
+
+pub told_accepted : {S : Type 0} (tells : S → List Event → Type 0) {s : State} {one two : Choice} {new : Parts} (old sink : S)
+    → Steps s one two new (tells sink) → ToldAs tells (step s one two).answer old sink
+told_accepted tells old sink h = rw h.answers h.written
+
+-- what was returned, and so what the step said
+
+pub answered_err : (answer : Answer) (next : State) (old new : Parts) (why : Refusal) → AnswersAs answer next old new (Err why)
+    → (reason : Reason) × (answer ≡ Refused reason) × (why ≡ refusal_of reason) × (new ≡ old)
+answered_err (Refused reason) next old new why h = (reason, refl, (let e = h.0 in cc), h.1)
+answered_err (Accepted events) next old new why h = absurd (let e = h.0 in cc)
+
+pub answered_ok : (answer : Answer) (next : State) (old new : Parts) (old_log log : ArrayVec ℕ) (result : BattleResult) → AnswersAs answer next old new (Ok result) → LogsAs answer old_log log
+    → (events : List Event) × (answer ≡ Accepted events) × Stands new next × IsReading log.items events
+answered_ok (Refused reason) next old new old_log log result h l = absurd (let e = h.0 in cc)
+answered_ok (Accepted events) next old new old_log log result h l = (events, refl, h.1, l)
+
+-- a test that found nothing
+pub none_left : (o : Option Refusal) → ((why : Refusal) → o ≡ Some why → ⊥) → o ≡ None
+none_left (Some why) h = absurd (h why refl)
+none_left None h = refl
+
+pub same_events : {a b : List Event} → Accepted a ≡ Accepted b → a ≡ b
+same_events e = cc
+
+-- Calls of an update, one after the other.
+
+-- one call
+
+one_call : (s : State) (one two : Choice) (old new : Parts) (result : Result BattleResult Refusal) → Stands old s → Answers s one two old new result
+    → Stands new (step s one two).state × (is_ok result ≡ is_accepted (step s one two).answer)
+one_call s one two old new result h a = by (step s one two).answer refl a
+  where
+    by : (answer : Answer) → (step s one two).answer ≡ answer → AnswersAs answer (step s one two).state old new result
+        → Stands new (step s one two).state × (is_ok result ≡ is_accepted answer)
+    by (Refused why) e k =
+        let same = (refusal_changes_nothing s one two why e).1 in
+        (subst (λ (t : State). Stands new t) (sym same) (subst (λ (p : Parts). Stands p s) (sym k.1) h), ap is_ok k.0)
+    by (Accepted events) e k = (k.1, ap is_ok k.0)
+
+-- all of them
+
+all_calls : (s : State) (old new : Parts) (pairs : List (Choice × Choice)) (results : List (Result BattleResult Refusal)) → Stands old s → UpdatesAll old pairs results new
+    → Stands new (run s pairs).state × (count_by is_ok results ≡ accepted_in s pairs)
+unfolding run_by
+all_calls s old new [] [] h all = (subst (λ (p : Parts). Stands p s) (sym all) h, refl)
+all_calls s old new [] (result ∷ results) h all = absurd all
+all_calls s old new (pair ∷ pairs) [] h all = absurd all
+all_calls s old new (pair ∷ pairs) (result ∷ results) h all =
+    let here = one_call s pair.0 pair.1 old all.0 result h (all.1 s h) in
+    let later = all_calls (step s pair.0 pair.1).state all.0 new pairs results here.0 all.2 in (
+      later.0,
+      sum_by-cons (λ (r : Result BattleResult Refusal). cond (is_ok r) 1 0) result results
+          ∙ ap (λ (b : Bool). cond b 1 0 + count_by is_ok results) here.1
+          ∙ ap (λ (n : ℕ). cond (is_accepted (step s pair.0 pair.1).answer) 1 0 + n) later.1
+          ∙ sym (sum_by-cons (λ (a : Answer). cond (is_accepted a) 1 0) (step s pair.0 pair.1).answer (run (step s pair.0 pair.1).state pairs).answers),
+    )
+
+pub calls_are_the_run : CallsAreTheRun
+calls_are_the_run s old new pairs results h all = (all_calls s old new pairs results h all).0
+
+pub calls_end : CallsEnd
+calls_end s old new pairs results h all =
+    let same = (all_calls s old new pairs results h all).1 in
+    let ends = runs_end s pairs h.valid in
+    (subst (λ (n : ℕ). n ≤ s.terms.limit + 11) (sym same) ends.0, λ e. ends.1 (sym same ∙ e))
+
+pub offered_is_accepted : OfferedIsAccepted
+offered_is_accepted s old new pair result h updates first second =
+    let is = step_accepts s pair.0 pair.1 (goes_on s One pair.0 first) first second in
+    let a = one_call s pair.0 pair.1 old new result h (updates s h) in
+    a.1 ∙ ap (λ (t : Stepped). is_accepted t.answer) is

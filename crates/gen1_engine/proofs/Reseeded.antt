@@ -1,12 +1,12 @@
 -- The header of a battle with other numbers to draw.
 use Rattle.std.proofs.Common.{List, [], ap, arith, length, refl, slice_index, ℕ, ◌%◌, ◌/◌, ◌<◌, ◌≡◌, ◌∷◌}
-use Rattle.gen1_rolls.specs.Link.{Ring}
+use Rattle.gen1_rolls.specs.Steady.{Ring}
 use Rattle.gen1_rolls.specs.Streams.{IsStream, Link, byte_at}
 use Rattle.gen1_machine.specs.Layout.{header_block, number_at}
 use Rattle.gen1_machine.specs.State.{State}
 use Rattle.gen1_machine.specs.Valid.{IsState}
 use Rattle.gen1_layout.specs.Parts.{Parts}
-use Rattle.gen1_layout.specs.Within.{Stands}
+use Rattle.gen1_layout.specs.Shows.{Stands}
 use Rattle.gen1_engine.specs.Reseed.{reseeded}
 
 -- a state is just as valid with other numbers to draw

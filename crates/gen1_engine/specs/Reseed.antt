@@ -1,5 +1,5 @@
 -- A battle with other numbers to draw (docs/MECHANICS.md, "Link numbers").
-use Rattle.gen1_rolls.specs.Link.{Ring}
+use Rattle.gen1_rolls.specs.Steady.{Ring}
 use Rattle.gen1_machine.specs.State.{State}
 
 -- the same state, which draws from these numbers, beginning at the index

@@ -8,9 +8,9 @@ use Rattle.gen1_machine.specs.declared.choice.Choice.{Choice}
 use Rattle.gen1_machine.specs.Bounds.{Bounded}
 use Rattle.gen1_machine.specs.State.{State}
 use Rattle.gen1_machine.specs.Step.{Accepted, Answer, NotOffered, Over, Refused, Refusal as Reason, offers, refused, step}
-use Rattle.gen1_events.specs.Splits.{IsReading}
+use Rattle.gen1_events.specs.Reader.{IsReading}
 use Rattle.gen1_layout.specs.Parts.{Parts}
-use Rattle.gen1_layout.specs.Within.{Stands}
+use Rattle.gen1_layout.specs.Shows.{Stands}
 use Rattle.gen1_engine.specs.declared.result.BattleResult.{BattleResult}
 use Rattle.gen1_engine.specs.declared.result.Refusal.{Refusal}
 use Rattle.gen1_engine.specs.declared.result.Refusal.TheVariants as refusals

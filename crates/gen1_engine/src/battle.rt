@@ -5,8 +5,8 @@ ghost use Rattle.gen1_machine.specs.Layout.{bytes_of};
 ghost use Rattle.gen1_machine.specs.OfferedChoices.{offered};
 ghost use Rattle.gen1_machine.specs.State.{State, first_state, usual_terms};
 ghost use Rattle.gen1_layout.specs.Loading.{IsLoadedAs};
-ghost use Rattle.gen1_layout.specs.LoadingMeaning.{IsBattle, StandsForSome};
-ghost use Rattle.gen1_layout.specs.Within.{Stands};
+ghost use Rattle.gen1_layout.specs.LoadingLaws.{IsBattle, StandsForSome};
+ghost use Rattle.gen1_layout.specs.Shows.{Stands};
 ghost use Rattle.gen1_layout.specs.Words.{AddsAtMost, HasRoom};
 ghost use Rattle.gen1_switching.specs.Updates.{Steps};
 ghost use Rattle.gen1_engine.specs.OfferedMask.{offered_mask};
@@ -37,7 +37,7 @@ pub struct Battle {
 
 impl Model for Battle {
     ghost use Rattle.gen1_layout.specs.Parts.{Parts};
-    ghost use Rattle.gen1_layout.specs.LoadingMeaning.{StandsForSome};
+    ghost use Rattle.gen1_layout.specs.LoadingLaws.{StandsForSome};
 
     ghost Value = { Parts };
 

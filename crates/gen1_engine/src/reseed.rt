@@ -2,8 +2,8 @@
 ghost use Rattle.std.specs.Prelude.{drop, length, take, ◌++◌, ◌≡◌, ◌∷◌};
 ghost use Rattle.gen1_rolls.specs.Streams.{IsStream, Link};
 ghost use Rattle.gen1_machine.specs.State.{State};
-ghost use Rattle.gen1_layout.specs.LoadingMeaning.{StandsForSome};
-ghost use Rattle.gen1_layout.specs.Within.{Stands};
+ghost use Rattle.gen1_layout.specs.LoadingLaws.{StandsForSome};
+ghost use Rattle.gen1_layout.specs.Shows.{Stands};
 ghost use Rattle.gen1_engine.specs.Reseed.{reseeded};
 
 use gen1_layout::Packed;

@@ -4,9 +4,9 @@ ghost use Rattle.std.specs.Prelude.{Bool, IsOk, OnErr, [], false, length, ◌≡
 ghost use Rattle.gen1_machine.specs.LogBytes.{codes_of};
 ghost use Rattle.gen1_machine.specs.State.{State, is_over};
 ghost use Rattle.gen1_machine.specs.declared.terms.Request.TheVariants.{Move};
-ghost use Rattle.gen1_layout.specs.Within.{Stands};
+ghost use Rattle.gen1_layout.specs.Shows.{Stands};
 ghost use Rattle.gen1_layout.specs.Words.{AddsAtMost, HasRoom};
-ghost use Rattle.gen1_layout.specs.LoadingMeaning.{StandsForSome};
+ghost use Rattle.gen1_layout.specs.LoadingLaws.{StandsForSome};
 ghost use Rattle.gen1_switching.specs.Updates.{Plays, Steps};
 ghost use Rattle.gen1_engine.specs.Replay.{IsRefused};
 ghost use Rattle.gen1_engine.specs.Update.{Answers, AreOffered, Logs, Tells, Tests, result_of};

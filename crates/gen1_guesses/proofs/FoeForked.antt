@@ -8,7 +8,7 @@ use Rattle.gen1_tables.specs.declared.effect.Effect.TheVariants as effects
 use Rattle.gen1_tables.specs.Effects.{bides, charges, rages, recharges, thrashes, traps}
 use Rattle.gen1_tables.specs.Moves.{move_row, move_rows, struggle}
 use Rattle.gen1_stats.specs.Members.{nobody, is_living, is_marked}
-use Rattle.gen1_layout.specs.LoadingActive.{effect_of_number}
+use Rattle.gen1_layout.specs.Loading.{effect_of_number}
 use Rattle.gen1_machine.specs.Layout.{condition_bits}
 use Rattle.gen1_machine.specs.LogBytes.{kind_or_0}
 use Rattle.gen1_machine.specs.Moves.{move_at}
@@ -27,9 +27,8 @@ use Rattle.gen1_states.specs.Plain.{no_member}
 use Rattle.gen1_states.specs.Reading.{member_state}
 use Rattle.gen1_states.specs.declared.plain.ActiveState.{ActiveState}
 use Rattle.gen1_states.specs.declared.plain.MemberState.{MemberState}
-use Rattle.gen1_guesses.specs.Active.{foe_bits, is_on, used_slot}
+use Rattle.gen1_guesses.specs.Members.{foe_bits, is_on, used_slot, member_at as place_in, members_of, seen_in, sleep_of, told, told_if_seen, hp_of}
 use Rattle.gen1_guesses.specs.Forks.{foe_part, IsToldAs, at_index, id_in, knows as knows_move, tested, tested_member, tested_members, tested_use, tested_uses, unless, Tested, tested_hp}
-use Rattle.gen1_guesses.specs.Members.{member_at as place_in, members_of, seen_in, sleep_of, told, told_if_seen, hp_of}
 use Rattle.gen1_guesses.specs.declared.fault.GuessFault.{GuessFault}
 use Rattle.gen1_guesses.specs.declared.fault.GuessFault.TheVariants as faults
 use Rattle.gen1_guesses.proofs.OwnForked.{bit_back, bits_same, four, is-move, knows_used, shows_at, marked-by, turns-left, IsShort}

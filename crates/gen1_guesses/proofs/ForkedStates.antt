@@ -7,7 +7,7 @@ use Rattle.gen1_player.specs.declared.player.Player.{Player}
 use Rattle.gen1_player.specs.declared.public_side.PublicSide.{PublicSide}
 use Rattle.gen1_states.specs.declared.plain.MemberState.{MemberState}
 use Rattle.gen1_guesses.specs.Forks.{clause_of, forked, guessed_for, if_fits, foe_of, foe_request, guessed_state, in_order, own_of, IsFork, Tested, tested}
-use Rattle.gen1_guesses.specs.Members.{fresh_members}
+use Rattle.gen1_guesses.specs.Members.{fresh_members, used_slot}
 use Rattle.gen1_guesses.specs.declared.guess.Guess.{Guess}
 use Rattle.std.specs.Prelude.{if◌then◌else◌, min}
 use Rattle.gen1_tables.specs.declared.effect.Stat.{Stat}
@@ -20,11 +20,10 @@ use Rattle.gen1_machine.specs.Rules.{bit_of, bits_of_rules, Rules}
 use Rattle.gen1_machine.specs.Stages.{now_at}
 use Rattle.gen1_machine.specs.State.{nobody_out, request_of, State, active_in, known_in, member_at, member_in, party, Field, Party, Terms}
 use Rattle.gen1_layout.specs.Parts.{parts_of}
-use Rattle.gen1_layout.specs.Within.{Stands}
+use Rattle.gen1_layout.specs.Shows.{Stands}
 use Rattle.gen1_layout.proofs.WaysBack.{now_fits}
-use Rattle.gen1_states.specs.ActiveTests.{member_out}
+use Rattle.gen1_states.specs.Tests.{member_out, are_left, completed, completed_side, computed_stats, stat_at}
 use Rattle.gen1_states.specs.Bytes.{bytes_of}
-use Rattle.gen1_states.specs.Completed.{are_left, completed, completed_side, computed_stats, stat_at}
 use Rattle.gen1_states.specs.Laws.{AreWords, IsPlain, IsPlainSide}
 use Rattle.gen1_states.specs.Plain.{first_side, second_side, no_member}
 use Rattle.gen1_states.specs.Reading.{side_state, state_of, active_state, member_state, no_active}
@@ -32,8 +31,7 @@ use Rattle.gen1_states.specs.declared.plain.ActiveState.{ActiveState}
 use Rattle.gen1_states.specs.declared.plain.BattleState.{BattleState}
 use Rattle.gen1_states.specs.declared.plain.SideState.{SideState}
 use Rattle.gen1_states.proofs.Back.{comes_back}
-use Rattle.gen1_states.proofs.Between.{not_zero}
-use Rattle.gen1_guesses.specs.Active.{used_slot}
+use Rattle.gen1_states.proofs.There.{not_zero}
 use Rattle.std.proofs.lemmas.Bool.Decides.{eqb_tells, nat_tests}
 use Rattle.std.proofs.lemmas.List.{get_or_past}
 use Rattle.gen1_tables.specs.Moves.{struggle}

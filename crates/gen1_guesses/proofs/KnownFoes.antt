@@ -9,7 +9,7 @@ use Rattle.gen1_player.specs.declared.hp_form.HpForm.TheVariants.{Bar, Exact, Hu
 use Rattle.gen1_player.specs.Telling.{bar, bar_divisor, bar_factor, filled, form_of, hundredths, told_in, slot_of, IsInSlot, IsTeller}
 use Rattle.gen1_player.proofs.Retellings.{bar_few}
 use Rattle.gen1_guesses.specs.Forks.{ForksTellHp, IsToldAs, foe_part}
-use Rattle.gen1_guesses.specs.Members.{hp_of, seen_in, fresh_members, members_of, told, told_if_seen}
+use Rattle.gen1_guesses.specs.Members.{hp_of, seen_in, fresh_members, members_of, told, told_if_seen, foe_bits}
 use Rattle.std.proofs.lemmas.List.{get_or-map, length-map, get_or_past}
 use Rattle.gen1_stats.specs.Members.{nobody, Member, nothing_known, IsBetween, IsFresh, IsTeam}
 use Rattle.gen1_machine.specs.declared.side.Side.{Side}
@@ -30,8 +30,8 @@ use Rattle.std.proofs.lemmas.List.Elements.{All-get_or}
 use Rattle.gen1_tables.specs.declared.effect.Effect.{Effect}
 use Rattle.gen1_tables.specs.Effects.{bides, charges, rages}
 use Rattle.gen1_stats.specs.declared.known_move.KnownMove.{KnownMove}
-use Rattle.gen1_layout.specs.LoadingActive.{effect_of_number}
-use Rattle.gen1_layout.proofs.Bits.{bits_of-is, bits_of-lt}
+use Rattle.gen1_layout.specs.Loading.{effect_of_number}
+use Rattle.gen1_layout.proofs.Counts.{bits_of-is, bits_of-lt}
 use Rattle.gen1_machine.specs.declared.picks.UsedMove.{UsedMove}
 use Rattle.gen1_machine.specs.declared.picks.UsedMove.TheVariants.{Nothing, Slot, Struggle}
 use Rattle.gen1_machine.specs.Layout.{number_of_bits}
@@ -43,7 +43,6 @@ use Rattle.gen1_states.specs.Laws.{IsPlainMember, IsPlainSide}
 use Rattle.gen1_states.specs.Plain.{no_member}
 use Rattle.gen1_states.specs.Reading.{member_state}
 use Rattle.gen1_states.specs.declared.plain.MemberState.{MemberState}
-use Rattle.gen1_guesses.specs.Active.{foe_bits}
 
 -- Quotients
 

@@ -31,26 +31,23 @@ use Rattle.gen1_machine.specs.declared.side.Side.{Side}
 use Rattle.gen1_machine.specs.CurrentStats.{now}
 use Rattle.gen1_machine.specs.Sides.{other}
 use Rattle.gen1_machine.specs.Valid.{IsMembersUnder, IsParty, IsState, IsStatus}
-use Rattle.gen1_layout.specs.SentOut.{stats_of}
-use Rattle.gen1_layout.specs.Within.{blocks_of, Stands}
+use Rattle.gen1_layout.specs.Shows.{stats_of, blocks_of, Stands}
 use Rattle.gen1_layout.proofs.Counts.{number_small}
 use Rattle.gen1_layout.proofs.WaysBack.{hp_fits_at, now_fits, stats_fit_at}
 use Rattle.gen1_player.specs.declared.own.OwnSide.{OwnSide}
 use Rattle.gen1_player.specs.Player.{not_shown_member}
 use Rattle.gen1_player.proofs.Fairness.{as_many, counted, have_species, shown_at as own_shown_at}
 use Rattle.gen1_states.specs.Faults.{on}
-use Rattle.gen1_states.specs.Completed.{are_left, completed_side, computed_stats}
-use Rattle.gen1_states.specs.ActiveTests.{member_out}
+use Rattle.gen1_states.specs.Tests.{are_left, completed_side, computed_stats, member_out}
 use Rattle.gen1_states.specs.Laws.{IsPlainMember, IsPlainSide}
 use Rattle.gen1_states.specs.Plain.{no_member}
 use Rattle.gen1_states.specs.Reading.{active_state as state_of_active, member_state, no_active, side_state, sleep_of as turns_of}
 use Rattle.gen1_states.specs.declared.plain.ActiveState.{ActiveState}
 use Rattle.gen1_states.specs.declared.plain.MemberState.{MemberState}
 use Rattle.gen1_states.specs.declared.plain.SideState.{SideState}
-use Rattle.gen1_states.proofs.Between.{not_zero, packs_of}
-use Rattle.gen1_guesses.specs.Active.{used_slot}
+use Rattle.gen1_states.proofs.There.{not_zero, packs_of}
+use Rattle.gen1_guesses.specs.Members.{used_slot, member_at as place_in, own_member as own_state, own_members, seen_in, mark_of, sleep_of, turns_left}
 use Rattle.gen1_guesses.specs.Forks.{own_part}
-use Rattle.gen1_guesses.specs.Members.{member_at as place_in, own_member as own_state, own_members, seen_in, mark_of, sleep_of, turns_left}
 use Rattle.gen1_guesses.proofs.ForkedStates.{words, below_or, current_is, few_moves, past_six, Holds}
 
 -- Conditions with the same number

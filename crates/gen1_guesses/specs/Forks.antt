@@ -9,7 +9,7 @@ use Rattle.gen1_player.specs.declared.seen.Seen.{Seen}
 use Rattle.gen1_states.specs.Faults.{◌▸◌}
 use Rattle.gen1_states.specs.Plain.{no_member}
 use Rattle.gen1_states.specs.declared.plain.MemberState.{MemberState}
-use Rattle.gen1_guesses.specs.Members.{hp_of, member_at, fresh_members, members_of, own_members, seen_in}
+use Rattle.gen1_guesses.specs.Members.{hp_of, member_at, fresh_members, members_of, own_members, seen_in, active_state, foe_known, is_on, own_known}
 use Rattle.gen1_guesses.specs.declared.fault.GuessFault.{GuessFault}
 use Rattle.gen1_stats.specs.Members.{Member, IsTeam}
 use Rattle.gen1_machine.specs.declared.side.Side.{Side}
@@ -20,7 +20,6 @@ use Rattle.gen1_player.specs.declared.hp_form.HpForm.{HpForm}
 use Rattle.gen1_player.specs.declared.own.OwnSide.{OwnSide}
 use Rattle.gen1_states.specs.declared.plain.BattleState.{BattleState}
 use Rattle.gen1_states.specs.declared.plain.SideState.{SideState}
-use Rattle.gen1_guesses.specs.Active.{active_state, foe_known, is_on, own_known}
 use Rattle.gen1_guesses.specs.declared.guess.Guess.{Guess}
 use Rattle.gen1_rolls.specs.Streams.{IsStream, Link}
 use Rattle.gen1_machine.specs.declared.choice.Choice.{Choice}
@@ -28,16 +27,16 @@ use Rattle.gen1_machine.specs.State.{first_state, member_at as member_of, party,
 use Rattle.gen1_machine.specs.Step.{run, Ran}
 use Rattle.gen1_machine.specs.Valid.{IsTerms}
 use Rattle.gen1_machine.specs.View.{shows}
-use Rattle.gen1_events.specs.Splits.{IsReading}
+use Rattle.gen1_events.specs.Reader.{IsReading}
 use Rattle.gen1_layout.specs.Parts.{parts_of}
-use Rattle.gen1_layout.specs.Within.{Stands}
+use Rattle.gen1_layout.specs.Shows.{Stands}
 use Rattle.gen1_player.specs.declared.public.Public.{Public}
 use Rattle.gen1_player.specs.declared.teller.Teller.{Teller}
 use Rattle.gen1_player.specs.OwnSide.{own_side, plain_side}
 use Rattle.gen1_player.specs.Player.{IsPlayer}
 use Rattle.gen1_player.specs.True.{as_known, events_in, first_teller, team_of, AgreesWith, BothDo, IsTold, SideHasAppeared, SideSleeps}
 use Rattle.gen1_states.specs.Bytes.{bytes_of}
-use Rattle.gen1_states.specs.Completed.{completed}
+use Rattle.gen1_states.specs.Tests.{completed}
 use Rattle.gen1_guesses.specs.declared.fault.GuessFault.TheVariants as faults
 
 -- Whether a guess fits what a player knows (docs/MECHANICS.md, "A battle that fits").

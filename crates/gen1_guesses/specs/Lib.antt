@@ -1,6 +1,4 @@
 -- The members of both sides.
 pub mod Members
--- The active members.
-pub mod Active
 -- The battle, its state, and what holds of it.
 pub mod Forks

@@ -1,11 +1,11 @@
 //! The active members, as far as a player knows them (docs/MECHANICS.md, "A battle that fits").
 ghost use Rattle.std.specs.Prelude.{Bool, [], false, if◌then◌else◌, min, slice_index, ◌&&◌, ◌*◌, ◌+◌, ◌/◌, ◌<◌, ◌∷◌, ◌≡◌, ◌≤◌, ◌||◌};
 ghost use Rattle.gen1_tables.specs.Effects.{bides, charges, rages, recharges, traps};
-ghost use Rattle.gen1_layout.specs.LoadingActive.{effect_of_number};
+ghost use Rattle.gen1_layout.specs.Loading.{effect_of_number};
 ghost use Rattle.gen1_machine.specs.Layout.{number_of_bits};
 ghost use Rattle.gen1_machine.specs.Rules.{bit_of};
 ghost use Rattle.gen1_states.specs.Faults.{on};
-ghost use Rattle.gen1_guesses.specs.Active.{active_state, blocked_slot, foe_bits, foe_known, has, is_free, is_on, of_moves, own_known, used_slot};
+ghost use Rattle.gen1_guesses.specs.Members.{active_state, blocked_slot, foe_bits, foe_known, has, is_free, is_on, of_moves, own_known, used_slot};
 
 use gen1_player::{OwnSide, PublicSide};
 use gen1_states::{ActiveState, MemberState};

@@ -1,10 +1,9 @@
 //! The battle that fits what a player knows, and its state (docs/MECHANICS.md, "A battle that fits").
 ghost use Rattle.std.specs.Prelude.{IfErr, IfOk, IsErr, IsOk, Err, Ok, length, ◌↔◌, ◌≡◌, ◌≤◌};
-ghost use Rattle.gen1_layout.specs.LoadingMeaning.{IsBattle, StandsForSome};
+ghost use Rattle.gen1_layout.specs.LoadingLaws.{IsBattle, StandsForSome};
 ghost use Rattle.gen1_layout.specs.Parts.{parts_of};
 ghost use Rattle.gen1_states.specs.Bytes.{bytes_of};
-ghost use Rattle.gen1_states.specs.Completed.{completed};
-ghost use Rattle.gen1_states.specs.WholeTests.{fault_of};
+ghost use Rattle.gen1_states.specs.Tests.{completed, fault_of};
 ghost use Rattle.gen1_guesses.specs.Forks.{ForksAgree, ForksTellHp, TrueHpFits, foe_part, foe_request, forked, guessed_for, guessed_state, in_order, own_part, side_of};
 ghost use Rattle.gen1_guesses.specs.declared.fault.GuessFault.TheVariants as faults;
 

@@ -26,13 +26,10 @@ use Rattle.gen1_machine.specs.Charging.{begin_charge, charge, make_current}
 use Rattle.gen1_machine.specs.Action.{damage_of, gate_or_held, lands_at_once, lead_up, lets_energy_go, move_taken_in, prelude, see_if_going_on, use_move}
 use Rattle.gen1_machine.specs.Valid.{effect_of, IsField, IsUnderway, IsUsedMove}
 use Rattle.gen1_machine.specs.Plans.{with_plan, Doing, FitsPick, IsPlanned, Plan, Plans}
-use Rattle.gen1_machine.proofs.Keeps.{choose-keeps, note-keeps, stay-keeps, stop-keeps, then-keeps, Keeps}
-use Rattle.gen1_machine.proofs.Leads.{choose-false, keeps-leads, then-leads, Leads}
-use Rattle.gen1_machine.proofs.Sound.{party-valid, planned-holds, planned-sound, replanned, taken-up, with_plan-is}
-use Rattle.gen1_machine.proofs.SoundFacts.{IsMove}
+use Rattle.gen1_machine.proofs.Keeps.{choose-keeps, note-keeps, stay-keeps, stop-keeps, then-keeps, Keeps, choose-false, keeps-leads, then-leads, Leads}
+use Rattle.gen1_machine.proofs.Sound.{party-valid, planned-holds, planned-sound, replanned, taken-up, with_plan-is, IsMove}
 use Rattle.gen1_machine.proofs.SoundWalk.{damage_of-sound, early_effect-sound, gate_or_held-sound, see_if_going_on-sound}
-use Rattle.gen1_machine.proofs.Explained.{bide_goes_on-keeps, prelude-keeps}
-use Rattle.gen1_machine.proofs.Acts.{bide-quiet, either, end_charge-keeps, leads-passes, passes-choose, passes-choose_sees, passes-stop, passes-then, quiet-sound, spend_pp-keeps, unchanged, IfStopped, Passes, Quiet}
+use Rattle.gen1_machine.proofs.Acts.{bide_goes_on-keeps, prelude-keeps, bide-quiet, either, end_charge-keeps, leads-passes, passes-choose, passes-choose_sees, passes-stop, passes-then, quiet-sound, spend_pp-keeps, unchanged, IfStopped, Passes, Quiet}
 use Rattle.gen1_hits.specs.Planned.{Before, Follows, Takes}
 use Rattle.gen1_hits.proofs.Knowledge.{stops-then}
 

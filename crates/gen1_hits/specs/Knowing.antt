@@ -1,14 +1,21 @@
 -- What is known of an action, in the form of the code: the machine's record of the action, and whether Haze met a
 -- sleeper. An operation that learns something is described by its phase like any other. If something is shown with
 -- what was known before it, the result of the phase is shown with what is known after it.
-use Rattle.std.specs.Prelude.{◌≡◌}
-use Rattle.gen1_layout.specs.Words.{Bool, Frame, None, Progress, ShowsDrawn, Side, Telling, false}
-use Rattle.gen1_rolls.specs.Draws.{Drawing, Ref, Source}
+use Rattle.std.specs.Prelude.{◌≡◌, Bool, Some, if◌then◌else◌, true, ℕ, None, Option, false, ◌==◌, ◌||◌}
+use Rattle.gen1_layout.specs.Words.{Progress, ShowsDrawn, Side, Telling, Phase, Within, Field, health_in, who_in}
+use Rattle.gen1_rolls.specs.Draws.{Drawing, Ref, Source, Since, StandsIn}
 use Rattle.gen1_machine.specs.declared.side.Side.TheVariants.{One}
 use Rattle.gen1_machine.specs.Progress.{Action}
-use Rattle.gen1_layout.specs.Operations.{Scene}
+use Rattle.gen1_layout.specs.Operations.{Scene, Premise}
 use Rattle.gen1_layout.specs.Parts.{Parts}
 use Rattle.gen1_hits.specs.declared.known.Known.{Known}
+use Rattle.gen1_layout.specs.Shows.{Frame}
+use Rattle.gen1_machine.specs.Ruling.{Ruling, ruling_of}
+use Rattle.gen1_machine.specs.Landing.{breaks}
+use Rattle.gen1_hits.specs.declared.landing.Landed.{Landed}
+use Rattle.gen1_hits.specs.declared.landing.Landed.TheVariants.{Broke, Hp, Kept}
+use Rattle.gen1_events.specs.declared.untested.Seen.{Seen}
+use Rattle.gen1_events.specs.Fields.{IsHealth, IsWho, health_of, who_of}
 
 abbrev pub action_of : Known → Action
 action_of k = record {
@@ -71,3 +78,65 @@ ShowsOver d source k g parts events now stopped p =
 -- No hit has been made or planned yet.
 abbrev pub IsUncounted : Known → Type 0
 IsUncounted k = (k.hits_made ≡ 0) × (k.hits_planned ≡ None)
+
+-- What is known of an action after a hit test (docs/MECHANICS.md, "Hit test").
+
+-- Whether the hit is critical.
+abbrev pub with_critical : Bool → Frame → Frame
+with_critical critical g = record g { action = record g.action { critical = critical } }
+
+-- A miss is known, or what was known before.
+abbrev pub with_miss_unless : Bool → Frame → Frame
+with_miss_unless hit g = record g { action = record g.action { missed = if hit then g.action.missed else true } }
+
+-- A miss, as in `with_miss_unless`, and the byte that was tested.
+abbrev pub with_test : Bool → ℕ → Frame → Frame
+with_test hit byte g = record g { action = record g.action { missed = if hit then g.action.missed else true; accuracy_tested = Some byte } }
+
+-- What a call by itself shows: an operation of an action that has just begun, of which nothing is known yet. Its
+-- bytes, events and generator are those of its phase. Facts that only the phase learns don't matter.
+
+-- What is known when a side's action, the first of its update, begins.
+abbrev pub just_begun : Side → Known
+just_begun s = begun s nothing_yet
+
+-- The bytes, the events and the generator are those of a battle in the middle of an update.
+pub record Remains {A : Type 0} (d : Drawing A) (source : Source A) (g : Frame) (parts : Parts) (events : Telling) (now : A) (p : Progress) : Type 0 where
+  pub within : Within g.setting parts p.field
+  pub written : events p.events
+  pub stands : StandsIn d source p.drawn now
+
+-- A scene at whose beginning the action of a side has just begun.
+abbrev pub beginning : Side → Scene → Scene
+beginning side s Then = s λ parts events _ parts' events' knows'. Then parts events (knowing (just_begun side)) parts' events' knows'
+
+-- Code with draws leaves the bytes, the events and the generator of a phase under the rules of the battle, if a premise
+-- holds.
+abbrev pub Leaves : {A : Type 0} → Drawing A → Ref A → Premise → Scene → (Ruling → Phase) → Type 0
+Leaves d random premise s phase = s λ parts events knows parts' events' _.
+    (since : Since d random.exit.now) (g : Frame) (p : Progress) → premise g p
+    (ShowsDrawn d since.source (knows g) parts events random.entry.now false p
+    → Remains d since.source g parts' events' random.exit.now (phase (ruling_of g.setting.terms) p))
+
+-- Where damage lands (docs/MECHANICS.md, "Landing"), and what is known of the action afterwards.
+
+-- Where damage lands on a member whose substitute has this many HP, or that has none.
+abbrev pub landed_on : ℕ → Option ℕ → Landed
+landed_on damage None = Hp
+landed_on damage (Some hp) = if damage == 0 then Hp else if breaks damage hp then Broke else Kept
+
+abbrev pub has_broken : Landed → Bool
+has_broken Broke = true
+has_broken _ = false
+
+-- Whether a substitute broke, with what was known before.
+abbrev pub with_break : Bool → Frame → Frame
+with_break broke g = record g { action = record g.action { broke = broke || g.action.broke } }
+
+-- A member that is out, by the numbers of an event.
+
+-- The numbers are those of the side's member, and in their ranges.
+pub record Sees (s : Side) (f : Field) (seen : Seen) : Type 0 where
+  pub who : who_of seen ≡ who_in s f
+  pub health : health_of seen ≡ health_in s f
+  pub ranges : IsWho (who_of seen) × IsHealth (health_of seen)

@@ -3,7 +3,7 @@ ghost use Rattle.std.specs.Prelude.{◌≡◌};
 ghost use Rattle.gen1_rolls.specs.Draws.{Steps};
 ghost use Rattle.gen1_layout.specs.Operations.{Draws, learns, unchanged};
 ghost use Rattle.gen1_layout.specs.Words.{Event, List, false, move_at};
-ghost use Rattle.gen1_hits.specs.HitTests.{with_critical};
+ghost use Rattle.gen1_hits.specs.Knowing.{with_critical};
 ghost use Rattle.gen1_tables.specs.Species.{species_row};
 ghost use Rattle.gen1_machine.specs.Moves.{is_often_critical};
 ghost use Rattle.gen1_machine.specs.CriticalHits.{critical_bound, roll_critical, rotated_left_3};

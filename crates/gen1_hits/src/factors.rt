@@ -2,9 +2,9 @@
 ghost use Rattle.std.specs.Prelude.{map, ◌≡◌, ◌≤◌};
 ghost use Rattle.std.specs.List.{range_with_len};
 ghost use Rattle.gen1_rolls.specs.Draws.{Steps};
-ghost use Rattle.gen1_rolls.specs.Looks.{limit_of};
+ghost use Rattle.gen1_rolls.specs.Streams.{limit_of};
 ghost use Rattle.gen1_machine.specs.Damage.{is_factor, rotated_right_1, times_factor};
-ghost use Rattle.gen1_hits.specs.Factors.{Varies, VariesUpTo, damages, varied};
+ghost use Rattle.gen1_hits.specs.DamageNumbers.{Varies, VariesUpTo, damages, varied};
 
 use crate::damage_formula::{Numbers, damage};
 use crate::types::type_steps;

@@ -5,7 +5,7 @@ ghost use Rattle.gen1_layout.specs.Words.{Event, List, Reads, draw, false, is_as
 ghost use Rattle.std.specs.Prelude.{max, ◌&&◌, ◌*◌, ◌+◌, ◌/◌, ◌≡◌, ◌≤◌};
 ghost use Rattle.gen1_machine.specs.Stages.{percent_at};
 ghost use Rattle.gen1_machine.specs.HitTest.{eats_dreams, hit_test, hits_below, lowers, miss, never_misses, scaled_in, settled_hit_in};
-ghost use Rattle.gen1_hits.specs.HitTests.{with_miss_unless, with_test};
+ghost use Rattle.gen1_hits.specs.Knowing.{with_miss_unless, with_test};
 
 use gen1_layout::{Conditions, Packed};
 use gen1_machine::Side;

@@ -3,7 +3,7 @@ ghost use Rattle.std.specs.Prelude.{◌&&◌};
 ghost use Rattle.gen1_layout.specs.Operations.{Does, scene};
 ghost use Rattle.gen1_layout.specs.Words.{AddsAtMost, Changes, Field, HasRoom, Reads, Setting, Within, changed_member, false, healed_by, hurt_by, is_living, member_in, nat_lt};
 ghost use Rattle.gen1_machine.specs.Progress.{gain_hp, lose_hp};
-ghost use Rattle.gen1_hits.specs.Seeing.{Sees};
+ghost use Rattle.gen1_hits.specs.Knowing.{Sees};
 
 use gen1_events::{EventSink, Seen, Untested};
 use gen1_layout::Packed;

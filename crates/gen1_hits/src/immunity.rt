@@ -7,7 +7,7 @@ use gen1_machine::Side;
 use gen1_tables::{Element, effectiveness};
 
 /// Whether a type row of 0 has the type of a move and a type of the member of `side` that is out (docs/MECHANICS.md, "Types").
-#[tactic(auto, using(crate::proofs::Immunities::none_of))]
+#[tactic(auto, using(crate::proofs::Knowledge::none_of))]
 pub fn is_immune(battle: &Packed, side: Side, kind: Element) -> bool
     ensures stands { Reads battle.now result λ f. is_immune kind (active_in side f) }
 {

@@ -4,7 +4,7 @@ ghost use Rattle.gen1_layout.specs.Operations.{Does, DoesWhere, holding, learns,
 ghost use Rattle.gen1_layout.specs.Words.{AddsAtMost, HasRoom, Reads, Some, conditions_in, false, nat_lt, other};
 ghost use Rattle.gen1_machine.specs.Progress.{only};
 ghost use Rattle.gen1_machine.specs.Landing.{breaks, land_damage, land_on_hp, land_on_substitute};
-ghost use Rattle.gen1_hits.specs.Landing.{has_broken, landed_on, with_break};
+ghost use Rattle.gen1_hits.specs.Knowing.{has_broken, landed_on, with_break};
 
 use gen1_events::EventSink;
 use gen1_layout::Packed;

@@ -1,7 +1,7 @@
 //! Which moves have the usual damage (docs/MECHANICS.md, "Fixed damage and one-hit moves", "Counter").
 ghost use Rattle.std.specs.Prelude.{◌≡◌};
 ghost use Rattle.gen1_machine.specs.Moves.{move_at};
-ghost use Rattle.gen1_hits.specs.UsualDamage.{has_own_damage, has_usual_damage};
+ghost use Rattle.gen1_hits.specs.DamageNumbers.{has_own_damage, has_usual_damage};
 
 use gen1_tables::{Effect, MoveId};
 

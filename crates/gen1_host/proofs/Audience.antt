@@ -1,7 +1,7 @@
 -- The law of secrecy for the audience, row by row.
 use Rattle.std.proofs.Common.{Bool, List, None, Option, Some, [], ap, false, inl, inr, is_some, refl, subst, sym, true, ℕ, ◌==◌, ◌≡◌, ◌∙◌, ◌∷◌, ◌⊎◌, ◌||◌}
 use Rattle.std.specs.Prelude.{if◌then◌else◌, map, not}
-use Rattle.gen1_rolls.specs.Link.{Ring}
+use Rattle.gen1_rolls.specs.Steady.{Ring}
 use Rattle.gen1_machine.specs.declared.side.Side.{Side}
 use Rattle.gen1_machine.specs.declared.side.Side.TheVariants.{One, Two}
 use Rattle.gen1_machine.specs.declared.terms.Outcome.{Outcome}
@@ -12,8 +12,7 @@ use Rattle.gen1_host.specs.Table.{after_row, Agreed, Cancel, current_pair, Ended
 use Rattle.gen1_host.specs.Messages.{Notice, notice, outcome_by, outcome_of}
 use Rattle.gen1_host.specs.Secrecy.{AllEndAlike, AllSame, ends_pair, is_secret, KeepsSecretsFromAll, Matches, noticed, SameForAll}
 use Rattle.gen1_host.proofs.QuietRows.{kept_seat, seat, submit_quiet, verdict_on, as_submission, cancel_reply, cancel_row_after, draw_table, forfeit_ends, late_quiet, offered_by}
-use Rattle.gen1_host.proofs.EndedPairs.{closed_table, goes}
-use Rattle.gen1_host.proofs.Secrecy.{no_truth}
+use Rattle.gen1_host.proofs.Secrecy.{closed_table, goes, no_truth}
 
 -- 1. What the audience can predict
 

@@ -2,7 +2,7 @@
 use Rattle.std.proofs.Common.{Bool, Err, None, Ok, Option, Result, Some, ap, arith, false, refl, subst, sym, true, ℕ, ◌==◌, ◌≡◌, ◌≢◌, ◌∙◌}
 use Rattle.std.specs.Prelude.{if◌then◌else◌, is_some, not}
 use Rattle.std.proofs.lemmas.Bool.Decides.{nat_tests}
-use Rattle.gen1_rolls.specs.Link.{Ring}
+use Rattle.gen1_rolls.specs.Steady.{Ring}
 use Rattle.gen1_machine.specs.declared.side.Side.{Side}
 use Rattle.gen1_machine.specs.declared.side.Side.TheVariants.{One, Two}
 use Rattle.gen1_machine.specs.Numbers.{side_number}

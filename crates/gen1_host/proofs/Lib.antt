@@ -9,6 +9,5 @@ pub mod LoadedHosts
 -- Worked examples.
 pub mod WorkedTables
 pub mod QuietRows
-pub mod EndedPairs
 pub mod Secrecy
 pub mod Audience

@@ -14,13 +14,13 @@ use Rattle.gen1_machine.specs.Room.{choice_by_byte, choice_made, chosen, Course,
 use Rattle.gen1_machine.specs.Rules.{bit_of}
 use Rattle.gen1_machine.specs.State.{Field, is_over, is_pass, party, request_of, same_side, State, Terms}
 use Rattle.gen1_machine.specs.Valid.{IsStarted, IsState, IsUnstarted}
-use Rattle.gen1_layout.specs.LoadingHeader.{version_three}
-use Rattle.gen1_layout.specs.LoadingMeaning.{IsBattle, StandsForSome}
+use Rattle.gen1_layout.specs.Loading.{version_three}
+use Rattle.gen1_layout.specs.LoadingLaws.{IsBattle, StandsForSome}
 use Rattle.gen1_layout.specs.Parts.{joined, parts_of, Parts}
-use Rattle.gen1_layout.specs.Within.{blocks_of, Stands}
-use Rattle.gen1_layout.proofs.Packing.{parts-bytes_of}
+use Rattle.gen1_layout.specs.Shows.{blocks_of, Stands}
+use Rattle.gen1_layout.proofs.WaysBack.{parts-bytes_of}
 use Rattle.gen1_offers.specs.OfferedMask.{all_choices, choices_in, chosen_by, living_of, passing, switches}
-use Rattle.gen1_offers.proofs.Collecting.{places_living}
+use Rattle.gen1_offers.proofs.OfferedSet.{places_living}
 use Rattle.gen1_offers.proofs.MaskChoices.{chosen-picked, picked_ifs}
 use Rattle.gen1_room.specs.Rooms.{Counts, is_replaced, on_bench, pairs_left, submission_of}
 use Rattle.gen1_host.specs.declared.host.Host.{Host}

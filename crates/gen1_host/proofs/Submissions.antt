@@ -7,7 +7,7 @@ use Rattle.gen1_machine.specs.declared.event.Event.{Event}
 use Rattle.gen1_machine.specs.declared.side.Side.{Side}
 use Rattle.gen1_machine.specs.Room.{Course, Reply, TurnedAway, choice_by_byte, choice_made, chosen, first_made, is_asked_to_pass, Submission}
 use Rattle.gen1_events.specs.declared.fault.LogFault.{LogFault}
-use Rattle.gen1_events.specs.Splits.{IsReading}
+use Rattle.gen1_events.specs.Reader.{IsReading}
 use Rattle.gen1_events.proofs.Readings.{one_reading}
 use Rattle.gen1_player.specs.declared.teller.Teller.{Teller}
 use Rattle.gen1_player.specs.Telling.{HasFault, meets_all, told_all, IsTeller}

@@ -8,7 +8,7 @@ use Rattle.gen1_machine.specs.Layout.{outcome_byte}
 use Rattle.gen1_machine.specs.Numbers.{side_number}
 use Rattle.gen1_machine.specs.Rules.{bit_of}
 use Rattle.gen1_machine.specs.State.{State}
-use Rattle.gen1_events.specs.Splits.{IsReading}
+use Rattle.gen1_events.specs.Reader.{IsReading}
 use Rattle.gen1_engine.specs.declared.result.BattleResult.{BattleResult}
 use Rattle.gen1_engine.specs.Update.{result_of}
 use Rattle.gen1_offers.specs.OfferedMask.{mask_of}

@@ -9,12 +9,11 @@ use Rattle.gen1_machine.specs.Choices.{choice_at}
 use Rattle.gen1_machine.specs.OfferedChoices.{offered}
 use Rattle.gen1_machine.specs.Room.{choice_by_byte}
 use Rattle.gen1_machine.specs.State.{Field, is_over, is_pass, request_of, State}
-use Rattle.gen1_events.specs.Splits.{IsReading}
-use Rattle.gen1_layout.specs.Loading.{IsLoadedAs}
-use Rattle.gen1_layout.specs.LoadingHeader.{version_three}
-use Rattle.gen1_layout.specs.LoadingMeaning.{IsBattle}
+use Rattle.gen1_events.specs.Reader.{IsReading}
+use Rattle.gen1_layout.specs.Loading.{IsLoadedAs, version_three}
+use Rattle.gen1_layout.specs.LoadingLaws.{IsBattle}
 use Rattle.gen1_layout.specs.Parts.{joined, parts_of}
-use Rattle.gen1_layout.specs.Within.{Stands}
+use Rattle.gen1_layout.specs.Shows.{Stands}
 use Rattle.gen1_player.specs.Telling.{IsTeller}
 use Rattle.gen1_room.specs.declared.plain.PlainRoom.{PlainRoom}
 use Rattle.gen1_room.specs.Rooms.{Counts}

@@ -3,7 +3,7 @@ ghost use Rattle.std.specs.Prelude.{IfErr, IsOk, IsTrue, OnErr, OnOk, false, ifâ
 ghost use Rattle.std.specs.List.{All};
 ghost use Rattle.gen1_machine.specs.State.{State};
 ghost use Rattle.gen1_machine.specs.declared.side.Side.TheVariants.{Two};
-ghost use Rattle.gen1_layout.specs.Within.{Stands};
+ghost use Rattle.gen1_layout.specs.Shows.{Stands};
 ghost use Rattle.gen1_player.specs.Telling.{IsTeller};
 ghost use Rattle.gen1_room.specs.Rooms.{Counts, is_replaced, on_bench, pairs_left};
 ghost use Rattle.gen1_host.specs.Loading.{FailsTest, IsHost, IsLawful, IsLog, IsStated, IsStored, IsTested, Waits, in_version_three};

@@ -2,7 +2,7 @@
 ghost use Rattle.std.specs.Prelude.{List, None, OnErr, false, length, ◌≡◌, ◌≤◌};
 ghost use Rattle.gen1_machine.specs.declared.event.Event.{Event};
 ghost use Rattle.gen1_machine.specs.Room.{Course, is_asked_to_pass};
-ghost use Rattle.gen1_events.specs.Splits.{IsReading};
+ghost use Rattle.gen1_events.specs.Reader.{IsReading};
 ghost use Rattle.gen1_machine.specs.declared.side.Side.{Side};
 ghost use Rattle.gen1_player.specs.Telling.{IsTeller, meets_all};
 ghost use Rattle.gen1_room.specs.Rooms.{Keeps, submission_of};

@@ -1,7 +1,7 @@
 -- How shown facts pass through phases. Each lemma takes a shown fact and gives a shown fact. Phases are explicit
 -- arguments, and `_` is mostly enough for them.
 use Rattle.std.proofs.Common.{Bool, List, [], ap, false, refl, subst, sym, true, ℕ, ◌++◌, ◌+◌, ◌≡◌, ◌∙◌, ◌∷◌}
-use Rattle.gen1_rolls.specs.Draws.{Drawing, IsNext, Source, StandsIn}
+use Rattle.gen1_rolls.specs.Draws.{Drawing, IsNext, Source, StandsIn, Ref, Since}
 use Rattle.gen1_rolls.specs.Streams.{Stream, byte_at}
 use Rattle.gen1_rolls.proofs.Standing.{stands_there}
 use Rattle.gen1_stats.specs.Members.{Member}
@@ -11,8 +11,9 @@ use Rattle.gen1_machine.specs.Conditions.{ActiveConditions}
 use Rattle.gen1_machine.specs.State.{changed_active, changed_conditions, changed_member, with_last_damage, Active, Field}
 use Rattle.gen1_machine.specs.Progress.{Action, Phase, Progress, choose, draw, given, note, on_action, on_active, on_conditions, on_field, on_member, set_last_damage, stay, stop, told, unless_stopped, when, ◌▸◌}
 use Rattle.gen1_layout.specs.Parts.{Parts}
-use Rattle.gen1_layout.specs.Within.{Within}
-use Rattle.gen1_layout.specs.Shows.{Frame, Shows, ShowsDrawn, Telling, Told}
+use Rattle.gen1_layout.specs.Shows.{Within, Frame, Shows, ShowsDrawn, Telling, Told}
+use Rattle.gen1_machine.specs.Ruling.{Ruling, ruling_of}
+use Rattle.gen1_layout.specs.Operations.{Does, DoesWhere, Draws, DrawsWhere, Premise, learns, quiet, scene}
 
 -- Phases, by their results
 
@@ -213,3 +214,33 @@ module _ {A : Type 0} {d : Drawing A} {source : Source A} where
   pub drawn_acted : {g : Frame} {parts : Parts} {events : Telling} {now : A} {b : Bool} {p : Progress} (f : Action → Action)
       → ShowsDrawn d source g parts events now b p → ShowsDrawn d source (record g { action = f g.action }) parts events now b (on_action f p)
   drawn_acted {g = g} f h = still {g' = record g { action = f g.action }} h (acted f h.shows)
+
+-- The words of an operation's contract, spelled out.
+
+module _ {S : Type 0} (tells : S → Telling) (battle : Ref Parts) (events : Ref S) (b : Bool) where
+  pub same-does : (phase : Phase) → Does (scene tells battle events) b phase
+      ≡ ((g : Frame) (p : Progress) → Shows g battle.entry.now (tells events.entry.now) false p
+      → Shows g battle.exit.now (tells events.exit.now) b (phase p))
+  same-does phase = refl
+
+  pub same-does_where : (premise : Premise) (phase : Ruling → Phase) → DoesWhere premise (scene tells battle events) b phase
+      ≡ ((g : Frame) (p : Progress) → premise g p (Shows g battle.entry.now (tells events.entry.now) false p
+      → Shows g battle.exit.now (tells events.exit.now) b (phase (ruling_of g.setting.terms) p)))
+  same-does_where premise phase = refl
+
+  pub same-draws : {A : Type 0} (d : Drawing A) (random : Ref A) (phase : Phase) → Draws d random (scene tells battle events) b phase
+      ≡ ((since : Since d random.exit.now) (g : Frame) (p : Progress) → ShowsDrawn d since.source g battle.entry.now (tells events.entry.now) random.entry.now false p
+      → ShowsDrawn d since.source g battle.exit.now (tells events.exit.now) random.exit.now b (phase p))
+  same-draws d random phase = refl
+
+  pub same-draws_where : {A : Type 0} (d : Drawing A) (random : Ref A) (premise : Premise) (phase : Ruling → Phase)
+      → DrawsWhere d random premise (scene tells battle events) b phase
+      ≡ ((since : Since d random.exit.now) (g : Frame) (p : Progress) → premise g p (ShowsDrawn d since.source g battle.entry.now (tells events.entry.now) random.entry.now false p
+      → ShowsDrawn d since.source g battle.exit.now (tells events.exit.now) random.exit.now b (phase (ruling_of g.setting.terms) p)))
+  same-draws_where d random premise phase = refl
+
+pub same-learns : {A : Type 0} (d : Drawing A) (random : Ref A) (battle : Ref Parts) (told : List Event) (learned : Frame → Frame) (b : Bool) (phase : Phase)
+    → Draws d random (learns learned (quiet told battle)) b phase
+    ≡ ((since : Since d random.exit.now) (g : Frame) (p : Progress) → ShowsDrawn d since.source g battle.entry.now (Told told) random.entry.now false p
+    → ShowsDrawn d since.source (learned g) battle.exit.now (Told told) random.exit.now b (phase p))
+same-learns d random battle told learned b phase = refl

@@ -14,14 +14,10 @@ use Rattle.gen1_machine.specs.Rules.{rules_of}
 use Rattle.gen1_machine.specs.Conditions.{Storing}
 use Rattle.gen1_machine.specs.Layout.{active_block, condition_bits, conditions_number, disabled_slot, disabled_turns, energy_of, high_byte, low_byte, member_block, member_blocks, turns_byte, turns_of, used_byte}
 use Rattle.gen1_machine.specs.Valid.{effect_of, IsActive, IsCount, IsDisabled, IsKept, IsMemberUnder, IsMembersUnder, IsStoring, IsUsedMove, KeepsAccuracy}
-use Rattle.gen1_layout.specs.LoadingBytes.{active_bytes, long, member_bytes, word, places_of}
-use Rattle.gen1_layout.specs.LoadingActive.{effect_in, effect_of_number, has, CountFits, DisabledFits, HoldsMove, PassesActive, PassesOut, PassesUnderway, TurnsFit, UsedFits}
-use Rattle.gen1_layout.specs.LoadingLaws.{ActivesStand}
-use Rattle.gen1_layout.specs.LoadingMeaning.{beside_stats, out_of, AreBytes, StandsForActive}
-use Rattle.gen1_layout.proofs.LoadingBits.{bit_back, bits_17, bits_17-low, four_back}
-use Rattle.gen1_layout.proofs.LoadingBlocks.{listed, part_bytes, part_length, two_back, two_high, two_low}
-use Rattle.gen1_layout.proofs.LoadingPlaces.{held, holds, known_slot}
-use Rattle.gen1_layout.proofs.LoadingStatLaws.{split_stats, with_stats}
+use Rattle.gen1_layout.specs.Loading.{active_bytes, long, member_bytes, word, places_of, effect_in, effect_of_number, has, CountFits, DisabledFits, HoldsMove, PassesActive, PassesOut, PassesUnderway, TurnsFit, UsedFits}
+use Rattle.gen1_layout.specs.LoadingLaws.{ActivesStand, beside_stats, out_of, AreBytes, StandsForActive}
+use Rattle.gen1_layout.proofs.LoadingBlocks.{bit_back, bits_17, bits_17-low, four_back, listed, part_bytes, part_length, two_back, two_high, two_low, held, holds, known_slot}
+use Rattle.gen1_layout.proofs.LoadingLaws.{split_stats, with_stats}
 
 -- Types
 

@@ -1,28 +1,22 @@
 -- The packings of valid states are exactly the bytes that pass all tests.
 use Rattle.gen1_layout.proofs.Words.{Active, Bool, IsBetween, List, Member, ap, arith, false, inl, inr, length, nat_tests, nobody, refl, slice_index, subst, sym, ℕ, ◌∙◌}
-use Rattle.std.proofs.Common.{All, replicate, if◌then◌else◌, ◌*◌, ◌++◌, ◌+◌, ◌-◌, ◌<◌, ◌==◌, ◌≡◌, ◌≤◌}
-use Rattle.std.proofs.lemmas.Bool.{cases_lt}
-use Rattle.std.proofs.lemmas.List.{get_or-take}
+use Rattle.std.proofs.Common.{All, replicate, if◌then◌else◌, ◌*◌, ◌++◌, ◌+◌, ◌-◌, ◌<◌, ◌==◌, ◌≡◌, ◌≤◌, Err, IsOk, ◌↔◌, Ok, Result, slice_set, suc, true, zero, ◌∷◌, []}
+use Rattle.std.proofs.lemmas.Bool.{cases_lt, eqb-true}
+use Rattle.std.proofs.lemmas.List.{get_or-take, length-set}
 use Rattle.std.proofs.lemmas.List.Elements.{All-replicate}
 use Rattle.gen1_rolls.specs.Streams.{IsStream, Link}
 use Rattle.gen1_machine.specs.Rules.{rules_of, Rules}
 use Rattle.gen1_machine.specs.State.{member_at, nobody_out, not_sent_out, Party, State}
 use Rattle.gen1_machine.specs.Layout.{active_block, active_block_of, bytes_of, header_block, member_block, member_blocks, party_bytes}
 use Rattle.gen1_machine.specs.Valid.{FallenAreHealthy, IsActive, IsField, IsMembersUnder, IsOutcome, IsParty, IsStarted, IsTerms, IsUnstarted, KeepsAccuracy}
-use Rattle.gen1_layout.specs.LoadingBytes.{active_bytes, header_of, member_bytes, places_of, side_one, side_two, word}
-use Rattle.gen1_layout.specs.LoadingActive.{out_bytes, PassesActive}
-use Rattle.gen1_layout.specs.LoadingMember.{PassesMembers}
-use Rattle.gen1_layout.specs.LoadingStats.{PassesStats}
-use Rattle.gen1_layout.specs.LoadingLaws.{FormsStand, PassesForm}
-use Rattle.gen1_layout.specs.LoadingMeaning.{beside_stats, out_of, AreBytes, StandsFor, StandsForHeader, StandsForMembers}
+use Rattle.gen1_layout.specs.Loading.{active_bytes, header_of, member_bytes, places_of, side_one, side_two, word, out_bytes, PassesActive, PassesMembers, PassesStats, IsReadAs, PassesBefore, PassesTest, version_three, number_of, PassesOfActives, PassesOfMembers, PassesOfRequests, PassesOfStats, PassesHeader, PassesVersion}
+use Rattle.gen1_layout.specs.LoadingLaws.{FormsStand, PassesForm, beside_stats, out_of, AreBytes, StandsFor, StandsForHeader, StandsForMembers, IsBattle}
 use Rattle.gen1_layout.proofs.LoadingActives.{actives_law, first_of_block}
-use Rattle.gen1_layout.proofs.LoadingBlocks.{part_bytes, part_length, two_back}
-use Rattle.gen1_layout.proofs.LoadingHeaders.{headers_law, rules_forth}
+use Rattle.gen1_layout.proofs.LoadingBlocks.{part_bytes, part_length, two_back, form_split, joined, parts_of_state, party_split, side_split, holds}
+use Rattle.gen1_layout.proofs.LoadingLaws.{headers_law, rules_forth, requests_law, starts_law, split_stats, stats_law}
 use Rattle.gen1_layout.proofs.LoadingMembers.{all_zero, members_law}
-use Rattle.gen1_layout.proofs.LoadingParts.{form_split, joined, parts_of_state, party_split, side_split}
-use Rattle.gen1_layout.proofs.LoadingPlaces.{holds}
-use Rattle.gen1_layout.proofs.LoadingRequestLaws.{requests_law, starts_law}
-use Rattle.gen1_layout.proofs.LoadingStatLaws.{split_stats, stats_law}
+use Rattle.gen1_layout.specs.declared.loading.LoadFault.{LoadFault}
+use Rattle.gen1_layout.specs.declared.loading.LoadFault.TheVariants as faults
 
 -- A side with a member out, from its bytes
 
@@ -333,3 +327,120 @@ forms_back form full fit three st =
 
 pub forms_law : FormsStand
 forms_law form full fit three = (forms_from form full fit three, forms_back form full fit three)
+
+-- The results of reading, and the bytes that represent a battle.
+
+-- The form of version 3 is bytes of that version.
+
+set_bytes : (bytes : List ℕ) (i v : ℕ) → v < 256 → AreBytes bytes → AreBytes (slice_set bytes i v)
+set_bytes [] i v low fit k = fit k
+set_bytes (b ∷ bytes) zero v low fit zero = low
+set_bytes (b ∷ bytes) zero v low fit (suc k) = fit (suc k)
+set_bytes (b ∷ bytes) (suc i) v low fit zero = fit zero
+set_bytes (b ∷ bytes) (suc i) v low fit (suc k) = set_bytes bytes i v low (λ j. fit (suc j)) k
+
+record IsForm (form : List ℕ) : Type 0 where
+  pub full : length form ≡ 384
+  pub fit : AreBytes form
+  pub version : slice_index form 0 ≡ 3
+
+mended : (bytes : List ℕ) → length bytes ≡ 384 → AreBytes bytes → IsForm (slice_set (slice_set (slice_set bytes 0 3) 20 232) 21 3)
+mended [] full fit = absurd (omega arith)
+mended (b ∷ bytes) full fit = record {
+  full =
+      length-set (slice_set (slice_set (b ∷ bytes) 0 3) 20 232) 21 3 ∙ length-set (slice_set (b ∷ bytes) 0 3) 20 232
+      ∙ length-set (b ∷ bytes) 0 3 ∙ full;
+  fit =
+      set_bytes (slice_set (slice_set (b ∷ bytes) 0 3) 20 232) 21 3 (omega arith)
+      (set_bytes (slice_set (b ∷ bytes) 0 3) 20 232 (omega arith) (set_bytes (b ∷ bytes) 0 3 (omega arith) fit));
+  version = refl;
+}
+
+form_of : (bytes : List ℕ) → length bytes ≡ 384 → AreBytes bytes → IsForm (version_three bytes)
+form_of bytes full fit = by (slice_index bytes 0 == 3) refl
+  where
+    by : (b : Bool) → (slice_index bytes 0 == 3) ≡ b
+        → IsForm (if b then bytes else slice_set (slice_set (slice_set bytes 0 3) 20 232) 21 3)
+    by true is = record { full = full; fit = fit; version = eqb-true _ _ is }
+    by false is = mended bytes full fit
+
+-- Bytes that pass all tests represent a battle
+
+battle_from : (bytes : List ℕ) → AreBytes bytes → PassesBefore 8 bytes → IsBattle bytes
+battle_from bytes fit p =
+    let full : length bytes ≡ 384 = p faults.Length (omega arith) in
+    let header = p faults.Header (omega arith) in
+    let form = form_of bytes full fit in
+    record {
+      full = full;
+      version = p faults.Version (omega arith);
+      keeps = header.0;
+      stands =
+          (forms_law (version_three bytes) form.full form.fit form.version).0
+          record {
+            header = header.1;
+            members = p faults.Member (omega arith);
+            actives = p faults.Active (omega arith);
+            stats = p faults.Stat (omega arith);
+            requests = p faults.Request (omega arith);
+          };
+    }
+
+battle_passes : (bytes : List ℕ) → AreBytes bytes → IsBattle bytes → (fault : LoadFault) → PassesTest fault bytes
+battle_passes bytes fit b fault =
+    let form = form_of bytes b.full fit in
+    let p = (forms_law (version_three bytes) form.full form.fit form.version).1 b.stands in
+    by p fault
+  where
+    by : PassesForm (version_three bytes) → (fault : LoadFault) → PassesTest fault bytes
+    by p faults.Length = b.full
+    by p faults.Version = b.version
+    by p faults.Header = (b.keeps, p.header)
+    by p faults.Member = p.members
+    by p faults.Active = p.actives
+    by p faults.Stat = p.stats
+    by p faults.Request = p.requests
+
+pub read_stands : (bytes : List ℕ) (result : Result (List ℕ) LoadFault) → AreBytes bytes → IsReadAs result bytes → IsOk result ↔ IsBattle bytes
+read_stands bytes (Ok form) fit is = (λ ok. battle_from bytes fit is.0, λ battle. refl)
+read_stands bytes (Err fault) fit is = (λ ok. cc, λ battle. absurd (is.1 (battle_passes bytes fit battle fault)))
+
+-- What the tests of reading say together, after some have passed.
+
+-- The tests before that of the current stats.
+pub record PassesFive (bytes form : List ℕ) : Type 0 where
+  pub length : length bytes ≡ 384
+  pub version : IsBetween 1 3 (slice_index bytes 0)
+  pub header : PassesVersion bytes × PassesHeader (header_of form)
+  pub members : PassesOfMembers form
+  pub actives : PassesOfActives form
+
+pub before_stats : (bytes form : List ℕ) → form ≡ version_three bytes → PassesFive bytes form → (fault : LoadFault) → number_of fault < 6
+    → PassesTest fault bytes
+before_stats bytes form is p faults.Length low = p.length
+before_stats bytes form is p faults.Version low = p.version
+before_stats bytes form is p faults.Header low = (p.header.0, subst (λ f. PassesHeader (header_of f)) is p.header.1)
+before_stats bytes form is p faults.Member low = subst PassesOfMembers is p.members
+before_stats bytes form is p faults.Active low = subst PassesOfActives is p.actives
+before_stats bytes form is p faults.Stat low = absurd (omega arith)
+before_stats bytes form is p faults.Request low = absurd (omega arith)
+
+pub before_requests : (bytes form : List ℕ) → form ≡ version_three bytes → PassesFive bytes form → PassesOfStats form → (fault : LoadFault)
+    → number_of fault < 7 → PassesTest fault bytes
+before_requests bytes form is p stats faults.Length low = p.length
+before_requests bytes form is p stats faults.Version low = p.version
+before_requests bytes form is p stats faults.Header low = before_stats bytes form is p faults.Header (omega arith)
+before_requests bytes form is p stats faults.Member low = before_stats bytes form is p faults.Member (omega arith)
+before_requests bytes form is p stats faults.Active low = before_stats bytes form is p faults.Active (omega arith)
+before_requests bytes form is p stats faults.Stat low = subst PassesOfStats is stats
+before_requests bytes form is p stats faults.Request low = absurd (omega arith)
+
+pub all_tests : (bytes form : List ℕ) → form ≡ version_three bytes → PassesFive bytes form → PassesOfStats form → PassesOfRequests form
+    → (fault : LoadFault) → number_of fault < 8 → PassesTest fault bytes
+all_tests bytes form is p stats requests faults.Length low = p.length
+all_tests bytes form is p stats requests faults.Version low = p.version
+all_tests bytes form is p stats requests faults.Header low = before_stats bytes form is p faults.Header (omega arith)
+all_tests bytes form is p stats requests faults.Member low = before_stats bytes form is p faults.Member (omega arith)
+all_tests bytes form is p stats requests faults.Active low = before_stats bytes form is p faults.Active (omega arith)
+all_tests bytes form is p stats requests faults.Stat low = subst PassesOfStats is stats
+all_tests bytes form is p stats requests faults.Request low = subst PassesOfRequests is requests

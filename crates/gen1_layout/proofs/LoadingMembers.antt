@@ -11,10 +11,8 @@ use Rattle.gen1_stats.specs.Members.{is_left_out, is_marked, IsKnown}
 use Rattle.gen1_machine.specs.Rules.{bit_of, rules_of}
 use Rattle.gen1_machine.specs.Layout.{high_byte, low_byte, member_block, member_blocks, status_byte}
 use Rattle.gen1_machine.specs.Valid.{FallenAreHealthy, IsMemberUnder, IsMembersUnder, IsStatus}
-use Rattle.gen1_layout.specs.LoadingBytes.{member_bytes, places_of}
-use Rattle.gen1_layout.specs.LoadingMember.{may_be_known, status_fits, PassesMember, PassesMembers, PassesMoves, PassesPlace}
-use Rattle.gen1_layout.specs.LoadingLaws.{MembersStand}
-use Rattle.gen1_layout.specs.LoadingMeaning.{AreBytes, StandsForMember, StandsForMembers}
+use Rattle.gen1_layout.specs.Loading.{member_bytes, places_of, may_be_known, status_fits, PassesMember, PassesMembers, PassesMoves, PassesPlace}
+use Rattle.gen1_layout.specs.LoadingLaws.{MembersStand, AreBytes, StandsForMember, StandsForMembers}
 use Rattle.gen1_layout.proofs.LoadingBlocks.{bytes_from, listed, part_bytes, part_length, two_back, two_high, two_low}
 
 -- The status

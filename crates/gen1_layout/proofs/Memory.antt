@@ -26,8 +26,7 @@ use denote.Struct.Members.{Member, raw_tys}
 use denote.Struct.Parts.{Struct-left, left_Struct, shape_of}
 use denote.Struct.Recorded.{Recorded-part}
 use denote.Struct.Struct.{Struct}
-use Rattle.gen1_layout.specs.Joined.{joined-parts}
-use Rattle.gen1_layout.specs.Parts.{Parts, parts_of}
+use Rattle.gen1_layout.specs.Parts.{joined-parts, Parts, parts_of}
 use Rattle.gen1_layout.specs.contracts.packed.Packed as whole
 use Rattle.gen1_layout.specs.contracts.packed.Packed.TheInside as inside
 use Rattle.gen1_layout.proofs.packed.Packed.TheInside.TheLaws as laws

@@ -8,9 +8,8 @@ use Rattle.gen1_machine.specs.State.{active_in, changed_member, member_in, Field
 use Rattle.gen1_machine.specs.Layout.{member_block}
 use Rattle.gen1_machine.specs.Valid.{IsMemberUnder}
 use Rattle.gen1_layout.specs.Parts.{active_of, joined, member_at, out_at, parts_of, rewritten, side_at, Parts}
-use Rattle.gen1_layout.specs.Within.{Setting, Within}
-use Rattle.gen1_layout.proofs.Blocks.{active_holds, out_holds, party_in}
-use Rattle.gen1_layout.proofs.Steps.{member_written, SameStats}
+use Rattle.gen1_layout.specs.Shows.{Setting, Within}
+use Rattle.gen1_layout.proofs.Steps.{active_holds, out_holds, party_in, member_written, SameStats}
 use Rattle.gen1_layout.proofs.Views.{member-leaves}
 
 module _ {g : Setting} {p : Parts} {f : Field} (h : Within g p f) where

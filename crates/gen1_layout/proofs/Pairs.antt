@@ -26,7 +26,7 @@ use denote.Shadow.{pure_l}
 use denote.Slice.{MutSlice, mut_slice_at, slice_val}
 use denote.Steps.{nothing}
 use Rattle.std.specs.List.{refill}
-use Rattle.gen1_layout.proofs.Rewriting.{refill-same}
+use Rattle.gen1_layout.proofs.Views.{refill-same}
 
 module _ {M : Type 1} {𝓤 : Ura M} (𝓛 : Logic 𝓤) (R T U V : RattleType) (F : T.Denot → R.Denot) (G : U.Denot → V.Denot → T.Denot) (γ γ' γ₁ γ₂ : GName) where
   open 𝓛 use {A}

@@ -1,20 +1,86 @@
 -- One lemma for each part that code writes: afterwards the parts represent the field with that part changed.
-use Rattle.std.proofs.Common.{List, ap, arith, length, length-set, refl, subst, sym, ℕ, ◌-◌, ◌<◌, ◌≡◌, ◌≤◌, ◌∙◌}
-use Rattle.std.proofs.lemmas.List.{get_or-set_same}
-use Rattle.std.proofs.lemmas.List.Elements.{All-get_or, All-set}
-use Rattle.std.specs.List.{refill}
-use Rattle.gen1_stats.specs.Members.{Member, nobody}
+use Rattle.std.proofs.Common.{Bool, List, [], ap, arith, cond, false, length, map, nat_eq, replicate, sym, take, ℕ, ◌++◌, ◌-◌, ◌<◌, ◌≡◌, ◌≤◌, ◌∙◌, get_or, set, length-set, refl, subst, inl, inr, suc, zero, ◌+◌, ◌∷◌}
+use Rattle.std.proofs.lemmas.Bool.Decides.{nat_tests}
+use Rattle.std.proofs.lemmas.List.{get_or-map, get_or-take, get_or_append_left, length-map, map-set, set-append_left, get_or-set_same, get_or-set_other}
+use Rattle.std.proofs.Math.Seq.{take-set-lt}
+use Rattle.gen1_stats.specs.Members.{Member, nobody, nothing_known, IsBetween, IsKnown}
 use Rattle.gen1_machine.specs.declared.side.Side.{Side}
 use Rattle.gen1_machine.specs.declared.side.Side.TheVariants.{One, Two}
+use Rattle.gen1_machine.specs.State.{active_in, member_at, member_in, party, Field, Party, changed_active, changed_conditions, changed_member, conditions_in, with_member as with_member_at, with_party, Active, Terms, known_in}
+use Rattle.gen1_machine.specs.Layout.{active_block, active_block_of, header_block, member_block, member_blocks}
+use Rattle.gen1_layout.specs.Parts.{active_of, member_of, Parts, with_active, with_member}
+use Rattle.gen1_layout.specs.Shows.{IsStorable, IsStorableParty, state_in, Setting, Within, IsStorableActive, IsStorableConditions, blocks_of, Packs}
+use Rattle.std.proofs.lemmas.List.Elements.{All-get_or, All-set}
+use Rattle.std.specs.List.{refill}
 use Rattle.gen1_machine.specs.Rules.{Rules}
 use Rattle.gen1_machine.specs.Conditions.{ActiveConditions}
-use Rattle.gen1_machine.specs.State.{active_in, changed_active, changed_conditions, changed_member, conditions_in, member_at, member_in, party, with_member as with_member_at, with_party, Active, Field, Party, Terms}
-use Rattle.gen1_machine.specs.Layout.{active_block, active_block_of, header_block, member_block}
 use Rattle.gen1_machine.specs.Valid.{IsMemberUnder, IsOutcome, IsMembersUnder}
-use Rattle.gen1_layout.specs.Parts.{active_of, member_of, with_active, with_member, Parts}
-use Rattle.gen1_layout.specs.Storable.{IsStorable, IsStorableActive, IsStorableConditions, IsStorableParty}
-use Rattle.gen1_layout.specs.Within.{blocks_of, state_in, Setting, Within, Packs}
-use Rattle.gen1_layout.proofs.Blocks.{block_out, blocks_set, party_in}
+use Rattle.std.proofs.lemmas.Bool.{cases_eq}
+use Rattle.gen1_stats.specs.declared.known_move.KnownMove.{KnownMove}
+
+-- The contents of each part when the parts represent a field, and what a replaced block represents.
+
+-- Members
+
+-- A place that holds a member has that member's block.
+pub blocks_get : (ms : List Member) (k : ℕ) → length ms ≤ 6 → k < length ms → get_or (member_blocks ms) k [] ≡ member_block (get_or ms k nobody)
+blocks_get ms k few within =
+    let blocks = map member_block ms in
+    let inside : k < length blocks = rw length-map within in
+    get_or-take 6 (blocks ++ replicate 6 (replicate 24 0)) k [] (omega arith)
+    ∙ get_or_append_left blocks (replicate 6 (replicate 24 0)) [] k inside ∙ get_or-map member_block ms k nobody [] within
+
+-- Replacing a member's block replaces the member.
+pub blocks_set : (ms : List Member) (k : ℕ) (m : Member) → length ms ≤ 6 → k < length ms → set (member_blocks ms) k (member_block m) ≡ member_blocks (set ms k m)
+blocks_set ms k m few within =
+    let blocks = map member_block ms in
+    let rest : List (List ℕ) = replicate 6 (replicate 24 0) in
+    let inside : k < length blocks = rw length-map within in
+    sym (take-set-lt 6 (blocks ++ rest) k (member_block m) (omega arith))
+    ∙ ap (λ (l : List (List ℕ)). take 6 l) (set-append_left blocks rest k (member_block m) inside
+    ∙ ap (λ (l : List (List ℕ)). l ++ rest) (sym (map-set member_block ms k m)))
+
+-- Sides
+
+pub party_in : (g : Setting) (f : Field) (s : Side) → IsStorable g.terms f → IsStorableParty g.terms.rules (party s f)
+party_in g f One v = v.one
+party_in g f Two v = v.two
+
+not_zero : (n : ℕ) → 1 ≤ n → nat_eq n 0 ≡ false
+not_zero n h = grind (arith, nat_tests)
+
+-- A member that is out has an active block.
+pub block_out : (t : Party) → 1 ≤ t.active.place → active_block_of t ≡ active_block (member_at t.active.place t) t.active
+block_out t h = ap (λ (b : Bool). cond b (replicate 36 0) (active_block (member_at t.active.place t) t.active)) (not_zero t.active.place h)
+
+-- The contents of the parts
+
+module _ {g : Setting} {p : Parts} {f : Field} (h : Within g p f) where
+  pub header_holds : p.header ≡ header_block (state_in g f)
+  header_holds = ap (λ (q : Parts). q.header) h.same
+
+  side_active : (s : Side) → active_of s p ≡ active_block_of (party s f)
+  side_active One = ap (λ (q : Parts). q.one.active) h.same
+  side_active Two = ap (λ (q : Parts). q.two.active) h.same
+
+  pub active_holds : (s : Side) → active_of s p ≡ active_block (member_in s f) (active_in s f)
+  active_holds s = side_active s ∙ block_out (party s f) (party_in g f s h.storable).place.0
+
+  pub side_member : (s : Side) (place : ℕ) → member_of s place p ≡ get_or (member_blocks (party s f).members) (place - 1) []
+  side_member One place = ap (λ (q : Parts). get_or q.one.members (place - 1) []) h.same
+  side_member Two place = ap (λ (q : Parts). get_or q.two.members (place - 1) []) h.same
+
+  pub member_holds : (s : Side) (place : ℕ) → 1 ≤ place → place ≤ length (party s f).members
+      → member_of s place p ≡ member_block (member_at place (party s f))
+  member_holds s place low high =
+      let v = party_in g f s h.storable in
+      side_member s place ∙ blocks_get (party s f).members (place - 1) v.members.size.1 (omega arith)
+
+  -- The contents of the member that is out.
+  pub out_holds : (s : Side) (place : ℕ) → place ≡ (active_in s f).place → member_of s place p ≡ member_block (member_in s f)
+  out_holds s place e =
+      let v = party_in g f s h.storable in
+      ap (λ (k : ℕ). member_of s k p) e ∙ member_holds s (active_in s f).place v.place.0 v.place.1
 
 -- With a member out on both sides.
 pub within_packed : {g : Setting} {p : Parts} {f : Field} → Packs g p f → IsStorable g.terms f → Within g p f
@@ -294,3 +360,68 @@ within_unchanged {g = g} {p = p} {f = f} h One change e =
     subst (λ (c : ActiveConditions). Within g p (record f { one = record f.one { active = record f.one.active { conditions = c } } })) (sym e) h
 within_unchanged {g = g} {p = p} {f = f} h Two change e =
     subst (λ (c : ActiveConditions). Within g p (record f { two = record f.two { active = record f.two.active { conditions = c } } })) (sym e) h
+
+-- A member with other PP in a slot.
+
+abbrev pub with_pp : ℕ → ℕ → Member → Member
+with_pp slot pp m = record m { moves = set m.moves (slot - 1) (record (known_in slot m.moves) { pp = pp }) }
+
+default_free : {A : Type 0} (xs : List A) (k : ℕ) (d e : A) → k < length xs → get_or xs k d ≡ get_or xs k e
+default_free [] k d e h = absurd (omega arith)
+default_free (x ∷ xs) zero d e h = refl
+default_free (x ∷ xs) (suc k) d e h = default_free xs k d e (omega arith)
+
+same_id : (ms : List KnownMove) (k pp : ℕ) → k < length ms → (i : ℕ) (d : KnownMove) → i < length ms
+    → (get_or (set ms k (record (get_or ms k nothing_known) { pp = pp })) i d).id ≡ (get_or ms i d).id
+same_id ms k pp inside i d within =
+    let x : KnownMove = record (get_or ms k nothing_known) { pp = pp } in
+    elim (cases_eq i k) [
+      | inl same ↦ (rw (same, get_or-set_same ms k x d inside) (ap (λ (m : KnownMove). m.id) (default_free ms k nothing_known d inside)))
+      | inr differ ↦ ap (λ (m : KnownMove). m.id) (get_or-set_other ms k i x d differ)
+    ]
+
+pub pp_ok : (rules : Rules) (slot pp : ℕ) (m : Member) → 1 ≤ slot → slot ≤ length m.moves → pp ≤ 63 → IsMemberUnder rules m → IsMemberUnder rules (with_pp slot pp m)
+pp_ok rules slot pp m low high small ok =
+    let k = slot - 1 in
+    let inside : k < length m.moves = omega arith in
+    let x : KnownMove = record (get_or m.moves k nothing_known) { pp = pp } in
+    let long = length-set m.moves k x in
+    let known = All-get_or IsKnown m.moves k nothing_known inside ok.numbers.known in
+    let id = All-get_or (λ (a : KnownMove). IsBetween 1 165 a.id) m.moves k nothing_known inside ok.moves in
+    let same = same_id m.moves k pp inside in
+    record {
+      numbers = record {
+        level = ok.numbers.level;
+        max = ok.numbers.max;
+        hp = ok.numbers.hp;
+        attack = ok.numbers.attack;
+        defense = ok.numbers.defense;
+        speed = ok.numbers.speed;
+        special = ok.numbers.special;
+        slots = rw long ok.numbers.slots;
+        known = All-set IsKnown m.moves k x (record { in_engine = known.in_engine; not_struggle = known.not_struggle; pp = small }) ok.numbers.known;
+        distinct = λ i j d lt within e.
+            let low_end : i < length m.moves = omega (arith, long) in let high_end : j < length m.moves = omega (arith, long) in
+            ok.numbers.distinct i j d lt high_end (sym (same i d low_end) ∙ e ∙ same j d high_end);
+      };
+      species = ok.species;
+      moves = All-set (λ (a : KnownMove). IsBetween 1 165 a.id) m.moves k x id ok.moves;
+      status = ok.status;
+    }
+
+-- Its bytes.
+pub pp_block : (slot pp : ℕ) (m : Member) → 1 ≤ slot → slot ≤ 4 → slot ≤ length m.moves → set (member_block m) (slot + 18) pp ≡ member_block (with_pp slot pp m)
+pp_block zero pp m low high inside = absurd (omega arith)
+pp_block (suc zero) pp m low high inside =
+    let x : KnownMove = record (get_or m.moves 0 nothing_known) { pp = pp } in let here : 0 < length m.moves = omega arith in
+    rw (get_or-set_same m.moves 0 x nothing_known here, get_or-set_other m.moves 0 1 x nothing_known (λ e. absurd (omega (arith, e))), get_or-set_other m.moves 0 2 x nothing_known (λ e. absurd (omega (arith, e))), get_or-set_other m.moves 0 3 x nothing_known (λ e. absurd (omega (arith, e)))) refl
+pp_block (suc (suc zero)) pp m low high inside =
+    let x : KnownMove = record (get_or m.moves 1 nothing_known) { pp = pp } in let here : 1 < length m.moves = omega arith in
+    rw (get_or-set_same m.moves 1 x nothing_known here, get_or-set_other m.moves 1 0 x nothing_known (λ e. absurd (omega (arith, e))), get_or-set_other m.moves 1 2 x nothing_known (λ e. absurd (omega (arith, e))), get_or-set_other m.moves 1 3 x nothing_known (λ e. absurd (omega (arith, e)))) refl
+pp_block (suc (suc (suc zero))) pp m low high inside =
+    let x : KnownMove = record (get_or m.moves 2 nothing_known) { pp = pp } in let here : 2 < length m.moves = omega arith in
+    rw (get_or-set_same m.moves 2 x nothing_known here, get_or-set_other m.moves 2 0 x nothing_known (λ e. absurd (omega (arith, e))), get_or-set_other m.moves 2 1 x nothing_known (λ e. absurd (omega (arith, e))), get_or-set_other m.moves 2 3 x nothing_known (λ e. absurd (omega (arith, e)))) refl
+pp_block (suc (suc (suc (suc zero)))) pp m low high inside =
+    let x : KnownMove = record (get_or m.moves 3 nothing_known) { pp = pp } in let here : 3 < length m.moves = omega arith in
+    rw (get_or-set_same m.moves 3 x nothing_known here, get_or-set_other m.moves 3 0 x nothing_known (λ e. absurd (omega (arith, e))), get_or-set_other m.moves 3 1 x nothing_known (λ e. absurd (omega (arith, e))), get_or-set_other m.moves 3 2 x nothing_known (λ e. absurd (omega (arith, e)))) refl
+pp_block (suc (suc (suc (suc (suc k))))) pp m low high inside = absurd (omega arith)

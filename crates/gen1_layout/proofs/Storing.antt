@@ -8,8 +8,7 @@ use Rattle.gen1_machine.specs.Conditions.{Storing, Underway}
 use Rattle.gen1_tables.specs.Effects.{bides, thrashes, traps}
 use Rattle.gen1_machine.specs.State.{Party, State, Terms}
 use Rattle.gen1_machine.specs.Valid.{IsCount, IsDisabled, IsField, IsOutcome, IsParty, IsStoring, IsUnderway, IsUnstarted, OnlyWith}
-use Rattle.gen1_layout.specs.Storable.{IsStorable, IsStorableBide, IsStorableDisabled, IsStorableParty, IsStorableUnderway}
-use Rattle.gen1_layout.specs.Within.{Packs, setting_of, Stands}
+use Rattle.gen1_layout.specs.Shows.{IsStorable, IsStorableBide, IsStorableDisabled, IsStorableParty, IsStorableUnderway, Packs, setting_of, Stands}
 
 -- No move bides, thrashes and traps at once.
 alone : (e : Effect) → bit_of (bides e) + bit_of (thrashes e) + bit_of (traps e) ≤ 1

@@ -1,41 +1,43 @@
--- Reading a field back from its bytes.
-use Rattle.std.proofs.Common.{Bool, List, None, Option, Some, [], ap, arith, cond, false, is_some, length, lit<, lit≤, map, min, max, nat_le, refl, replicate, slice_index, subst, suc, sym, true, zero, get_or, ℕ, ◌%◌, ◌*◌, ◌+◌, ◌++◌, ◌-◌, ◌/◌, ◌<◌, ◌==◌, ◌≡◌, ◌≤◌, ◌∙◌, ◌∷◌, inl, inr, ◌⊎◌}
+-- Reading a field back from its bytes, and the packing of a battle, cut into parts.
+use Rattle.std.proofs.Common.{Bool, List, None, Option, Some, [], ap, arith, cond, false, is_some, length, lit<, lit≤, map, min, max, nat_le, refl, replicate, slice_index, subst, suc, sym, true, zero, get_or, ℕ, ◌%◌, ◌*◌, ◌+◌, ◌++◌, ◌-◌, ◌/◌, ◌<◌, ◌==◌, ◌≡◌, ◌≤◌, ◌∙◌, ◌∷◌, inl, inr, ◌⊎◌, set, take, length-append, nat_eq}
 use Rattle.std.proofs.Math.Nat.{div-le_self}
 use Rattle.std.proofs.Math.Bool.{or-false}
-use Rattle.std.proofs.lemmas.List.{get_or-append_right, get_or-replicate, get_or-take, length-map}
+use Rattle.std.proofs.lemmas.List.{get_or-append_right, get_or-replicate, get_or-take, length-map, length-replicate, length-take-le}
 use Rattle.std.proofs.lemmas.List.Elements.{All-get_or}
 use Rattle.byteorder.specs.Endian.{little_number}
 use Rattle.byteorder.specs.Numbers.{little_number-reads_back}
 use Rattle.gen1_tables.specs.declared.element.Element.{Element}
 use Rattle.gen1_tables.specs.declared.element.Element.TheVariants.{Normal, Fighting, Flying, Poison, Ground, Rock, Bug, Ghost, Fire, Water, Grass, Electric, Psychic, Ice, Dragon}
-use Rattle.gen1_tables.specs.Types.{number_of}
+use Rattle.gen1_tables.specs.Types.{number_of, any}
 use Rattle.gen1_tables.specs.declared.effect.Stat.{Stat}
 use Rattle.gen1_tables.specs.declared.effect.Stat.TheVariants.{Attack, Defense, Speed, Special, Accuracy, Evasion}
 use Rattle.gen1_stats.specs.declared.status.Status.{Status}
 use Rattle.gen1_stats.specs.declared.status.Status.TheVariants.{Healthy, Asleep, Poisoned, Burned, Frozen, Paralysed}
 use Rattle.std.proofs.lemmas.Bool.Decides.{nat_tests}
 use Rattle.std.specs.Prelude.{if◌then◌else◌, ◌&&◌, ◌||◌}
-use Rattle.gen1_tables.specs.Types.{any}
 use Rattle.gen1_stats.specs.Members.{is_living, is_marked, nobody, IsBetween, Member}
 use Rattle.gen1_machine.specs.declared.side.Side.{Side}
 use Rattle.gen1_machine.specs.declared.side.Side.TheVariants.{One, Two}
 use Rattle.gen1_machine.specs.declared.terms.Outcome.{Outcome}
-use Rattle.gen1_machine.specs.declared.terms.Outcome.TheVariants as outcomes
 use Rattle.gen1_machine.specs.declared.terms.Request.{Request}
-use Rattle.gen1_machine.specs.declared.terms.Request.TheVariants as requests
 use Rattle.gen1_machine.specs.declared.picks.UsedMove.{UsedMove}
 use Rattle.gen1_machine.specs.declared.picks.UsedMove.TheVariants.{Nothing, Slot, Struggle}
 use Rattle.gen1_machine.specs.Rules.{bit_of, bits_of_rules, rules_of, Rules}
-use Rattle.gen1_machine.specs.State.{known_in, member_at, member_in, party, Active, Field}
+use Rattle.gen1_machine.specs.State.{known_in, member_at, member_in, party, Active, Field, Party, State, Terms}
 use Rattle.gen1_machine.specs.CurrentStats.{now}
 use Rattle.gen1_machine.specs.Stages.{at_stage, divided_times, percent_at}
-use Rattle.gen1_machine.specs.Layout.{high_byte, low_byte, member_block, member_blocks, outcome_byte, request_byte, status_byte, used_byte, header_block}
-use Rattle.gen1_machine.specs.Valid.{IsMembersUnder, IsMemberUnder, IsOutcome, IsStatus, IsUsedMove}
-use Rattle.gen1_layout.specs.Parts.{member_of, Parts}
-use Rattle.gen1_layout.specs.Decoding.{element_of, outcome_of, request_of_byte, status_of, used_of}
-use Rattle.gen1_layout.specs.Within.{state_in, Packs, Setting, Within}
-use Rattle.gen1_layout.proofs.Blocks.{blocks_get}
-use Rattle.gen1_layout.proofs.Steps.{member_ok}
+use Rattle.gen1_machine.specs.Layout.{high_byte, low_byte, member_block, member_blocks, outcome_byte, request_byte, status_byte, used_byte, header_block, active_block, active_block_of, bytes_of, number_at}
+use Rattle.gen1_machine.specs.Valid.{IsMembersUnder, IsMemberUnder, IsOutcome, IsStatus, IsUsedMove, IsStarted, IsUnstarted}
+use Rattle.gen1_layout.specs.Parts.{member_of, Parts, element_of, outcome_of, request_of_byte, status_of, used_of, active_of, with_member, with_side, parts_of}
+use Rattle.gen1_layout.specs.Shows.{state_in, Packs, Setting, Within, blocks_of}
+use Rattle.gen1_layout.proofs.Steps.{blocks_get, member_ok}
+use Rattle.std.specs.List.{refill}
+use Rattle.gen1_layout.specs.Loading.{version_three}
+use Rattle.gen1_layout.specs.LoadingLaws.{IsBattle, StandsForSome}
+use Rattle.gen1_rolls.specs.Steady.{turned}
+use Rattle.gen1_rolls.specs.Streams.{byte_at, times_renewed}
+use Rattle.gen1_machine.specs.declared.terms.Outcome.TheVariants as outcomes
+use Rattle.gen1_machine.specs.declared.terms.Request.TheVariants as requests
 
 -- Numbers
 
@@ -309,3 +311,155 @@ any_of_six (a ∷ b ∷ c ∷ d ∷ []) few = refl
 any_of_six (a ∷ b ∷ c ∷ d ∷ e ∷ []) few = refl
 any_of_six (a ∷ b ∷ c ∷ d ∷ e ∷ h ∷ []) few = rw (or-false (is_living h)) refl
 any_of_six (a ∷ b ∷ c ∷ d ∷ e ∷ h ∷ i ∷ ms) few = absurd (omega arith)
+
+-- The parts of a battle that is made from zeros.
+
+abbrev pub no_member : List ℕ
+no_member = replicate 24 0
+
+-- This many written members, and zeros after them.
+abbrev pub begun_members : ℕ → List Member → List (List ℕ)
+begun_members count ms = take count (member_blocks ms) ++ replicate (6 - count) no_member
+
+abbrev pub begun_side : Side → ℕ → List Member → Parts → Parts
+begun_side s count ms p = with_side s (record { members = begun_members count ms; active = active_of s p }) p
+
+six : (L : List (List ℕ)) → length L ≡ 6 → (k : ℕ) → k < 6
+    → set (take k L ++ replicate (6 - k) no_member) k (get_or L k []) ≡ take (suc k) L ++ replicate (6 - suc k) no_member
+six (a ∷ b ∷ c ∷ d ∷ e ∷ f ∷ []) long zero low = refl
+six (a ∷ b ∷ c ∷ d ∷ e ∷ f ∷ []) long (suc zero) low = refl
+six (a ∷ b ∷ c ∷ d ∷ e ∷ f ∷ []) long (suc (suc zero)) low = refl
+six (a ∷ b ∷ c ∷ d ∷ e ∷ f ∷ []) long (suc (suc (suc zero))) low = refl
+six (a ∷ b ∷ c ∷ d ∷ e ∷ f ∷ []) long (suc (suc (suc (suc zero)))) low = refl
+six (a ∷ b ∷ c ∷ d ∷ e ∷ f ∷ []) long (suc (suc (suc (suc (suc zero))))) low = refl
+six (a ∷ b ∷ c ∷ d ∷ e ∷ f ∷ []) long (suc (suc (suc (suc (suc (suc k)))))) low = absurd (omega arith)
+six (a ∷ b ∷ c ∷ d ∷ e ∷ f ∷ g ∷ L) long k low = absurd (omega arith)
+six [] long k low = absurd (omega arith)
+six (a ∷ []) long k low = absurd (omega arith)
+six (a ∷ b ∷ []) long k low = absurd (omega arith)
+six (a ∷ b ∷ c ∷ []) long k low = absurd (omega arith)
+six (a ∷ b ∷ c ∷ d ∷ []) long k low = absurd (omega arith)
+six (a ∷ b ∷ c ∷ d ∷ e ∷ []) long k low = absurd (omega arith)
+
+pub length-blocks : (ms : List Member) → length (member_blocks ms) ≡ 6
+length-blocks ms =
+    length-take-le 6 (map member_block ms ++ replicate 6 no_member)
+    (omega (arith, length-append (map member_block ms) (replicate 6 no_member), length-replicate 6 no_member))
+
+pub begin_member : (ms : List Member) (k : ℕ) → length ms ≤ 6 → k < 6
+    → set (begun_members k ms) k (member_block (get_or ms k nobody)) ≡ begun_members (k + 1) ms
+begin_member ms k few low =
+    let e : suc k ≡ k + 1 = omega arith in
+    ap (λ (b : List ℕ). set (begun_members k ms) k b) (sym (blocks_any ms k few low)) ∙ six (member_blocks ms) (length-blocks ms) k low
+    ∙ ap (λ (n : ℕ). begun_members n ms) e
+
+-- One more member is written.
+pub begin_step : (s : Side) (place : ℕ) (ms : List Member) (p start : Parts) (w : List ℕ) → 1 ≤ place → place ≤ 6 → length ms ≤ 6
+    → p ≡ begun_side s (place - 1) ms start → w ≡ member_block (get_or ms (place - 1) nobody)
+    → with_member s place (refill 24 (member_of s place p) w) p ≡ begun_side s (place + 1 - 1) ms start
+begin_step s place ms p start w low high few is e =
+    let block = member_block (get_or ms (place - 1) nobody) in
+    let next : place - 1 + 1 ≡ place + 1 - 1 = omega arith in
+    let members : set (begun_members (place - 1) ms) (place - 1) block ≡ begun_members (place + 1 - 1) ms =
+    begin_member ms (place - 1) few (omega arith) ∙ ap (λ (n : ℕ). begun_members n ms) next in
+    ap (λ (l : List ℕ). with_member s place (refill 24 (member_of s place p) l) p) e
+    ∙ ap (λ (q : Parts). with_member s place block q) is ∙ side s members
+  where
+    side : (s : Side) → set (begun_members (place - 1) ms) (place - 1) (member_block (get_or ms (place - 1) nobody)) ≡ begun_members (place + 1 - 1) ms
+        → with_member s place (member_block (get_or ms (place - 1) nobody)) (begun_side s (place - 1) ms start) ≡ begun_side s (place + 1 - 1) ms start
+    side One m = ap (λ (l : List (List ℕ)). record start { one = record { members = l; active = start.one.active } }) m
+    side Two m = ap (λ (l : List (List ℕ)). record start { two = record { members = l; active = start.two.active } }) m
+
+-- The machine's packing, cut into parts, is the blocks of the state.
+
+six_are : (L : List (List ℕ)) → length L ≡ 6
+    → L ≡ get_or L 0 [] ∷ get_or L 1 [] ∷ get_or L 2 [] ∷ get_or L 3 [] ∷ get_or L 4 [] ∷ get_or L 5 [] ∷ []
+six_are [] long = absurd (omega arith)
+six_are (a ∷ []) long = absurd (omega arith)
+six_are (a ∷ b ∷ []) long = absurd (omega arith)
+six_are (a ∷ b ∷ c ∷ []) long = absurd (omega arith)
+six_are (a ∷ b ∷ c ∷ d ∷ []) long = absurd (omega arith)
+six_are (a ∷ b ∷ c ∷ d ∷ e ∷ []) long = absurd (omega arith)
+six_are (a ∷ b ∷ c ∷ d ∷ e ∷ f ∷ []) long = refl
+six_are (a ∷ b ∷ c ∷ d ∷ e ∷ f ∷ g ∷ L) long = absurd (omega arith)
+
+-- The block of the n-th member.
+abbrev nth : ℕ → List Member → List ℕ
+nth k ms = member_block (get_or ms k nobody)
+
+blocks_are : (ms : List Member) → length ms ≤ 6 → member_blocks ms ≡ nth 0 ms ∷ nth 1 ms ∷ nth 2 ms ∷ nth 3 ms ∷ nth 4 ms ∷ nth 5 ms ∷ []
+blocks_are ms few =
+    let any = blocks_any ms in
+    six_are (member_blocks ms) (length-blocks ms)
+    ∙ rw (any 0 few (lit< tt), any 1 few (lit< tt), any 2 few (lit< tt), any 3 few (lit< tt), any 4 few (lit< tt), any 5 few (lit< tt)) refl
+
+active_is : (t : Party) → (active_block_of t ≡ replicate 36 0) ⊎ (active_block_of t ≡ active_block (member_at t.active.place t) t.active)
+active_is t = by (nat_eq t.active.place 0)
+  where
+    by : (b : Bool) → (cond b (replicate 36 0) (active_block (member_at t.active.place t) t.active) ≡ replicate 36 0)
+        ⊎ (cond b (replicate 36 0) (active_block (member_at t.active.place t) t.active) ≡ active_block (member_at t.active.place t) t.active)
+    by true = inl refl
+    by false = inr refl
+
+pub parts-bytes_of : (s : State) → length s.field.one.members ≤ 6 → length s.field.two.members ≤ 6 → parts_of (bytes_of s) ≡ blocks_of s
+unfolding bytes_of
+parts-bytes_of s few_one few_two =
+    let one = blocks_are s.field.one.members few_one in let two = blocks_are s.field.two.members few_two in
+    elim (active_is s.field.one) [
+      | inl a ↦ elim (active_is s.field.two) [ inl b ↦ (rw (one, two, a, b) refl) | inr b ↦ (rw (one, two, a, b) refl) ]
+      | inr a ↦ elim (active_is s.field.two) [ inl b ↦ (rw (one, two, a, b) refl) | inr b ↦ (rw (one, two, a, b) refl) ]
+    ]
+
+-- A loaded battle represents the state whose packing is its form.
+
+few_one : (terms : Terms) (f : Field) → IsUnstarted terms f ⊎ IsStarted terms f → length f.one.members ≤ 6
+few_one terms f (inl u) = u.members_one.size.1
+few_one terms f (inr s) = s.field.one.members.size.1
+
+few_two : (terms : Terms) (f : Field) → IsUnstarted terms f ⊎ IsStarted terms f → length f.two.members ≤ 6
+few_two terms f (inl u) = u.members_two.size.1
+few_two terms f (inr s) = s.field.two.members.size.1
+
+pub stands_for_some : {bytes : List ℕ} (form : List ℕ) (loaded : Parts) → IsBattle bytes → form ≡ version_three bytes → loaded ≡ parts_of form
+    → StandsForSome loaded
+stands_for_some form loaded battle read parts =
+    let s = battle.stands.state in
+    let field = battle.stands.valid.field in
+    record {
+      state = s;
+      stands =
+          record {
+            same = parts ∙ ap parts_of (read ∙ battle.stands.same) ∙ parts-bytes_of s (few_one s.terms s.field field) (few_two s.terms s.field field);
+            valid = battle.stands.valid;
+          };
+    }
+
+-- The numbers of the header are those of the ring after this many draws.
+
+number_is : (seed : List ℕ) (n j : ℕ) → j < 9 → number_at seed n j ≡ times_renewed (n / 9) (slice_index seed j)
+unfolding byte_at
+number_is seed n j low =
+    let round : (9 * (n / 9) + j) / 9 ≡ n / 9 = omega arith in
+    let place : (9 * (n / 9) + j) % 9 ≡ j = omega arith in
+    rw (round, place) refl
+
+turned_is : (q : ℕ) (seed : List ℕ) → length seed ≡ 10
+    → turned q seed ≡ times_renewed q (slice_index seed 0) ∷ times_renewed q (slice_index seed 1) ∷ times_renewed q (slice_index seed 2) ∷ times_renewed q (slice_index seed 3) ∷ times_renewed q (slice_index seed 4) ∷ times_renewed q (slice_index seed 5) ∷ times_renewed q (slice_index seed 6) ∷ times_renewed q (slice_index seed 7) ∷ times_renewed q (slice_index seed 8) ∷ slice_index seed 9 ∷ []
+turned_is q [] e = absurd (omega arith)
+turned_is q (x0 ∷ []) e = absurd (omega arith)
+turned_is q (x0 ∷ x1 ∷ []) e = absurd (omega arith)
+turned_is q (x0 ∷ x1 ∷ x2 ∷ []) e = absurd (omega arith)
+turned_is q (x0 ∷ x1 ∷ x2 ∷ x3 ∷ []) e = absurd (omega arith)
+turned_is q (x0 ∷ x1 ∷ x2 ∷ x3 ∷ x4 ∷ []) e = absurd (omega arith)
+turned_is q (x0 ∷ x1 ∷ x2 ∷ x3 ∷ x4 ∷ x5 ∷ []) e = absurd (omega arith)
+turned_is q (x0 ∷ x1 ∷ x2 ∷ x3 ∷ x4 ∷ x5 ∷ x6 ∷ []) e = absurd (omega arith)
+turned_is q (x0 ∷ x1 ∷ x2 ∷ x3 ∷ x4 ∷ x5 ∷ x6 ∷ x7 ∷ []) e = absurd (omega arith)
+turned_is q (x0 ∷ x1 ∷ x2 ∷ x3 ∷ x4 ∷ x5 ∷ x6 ∷ x7 ∷ x8 ∷ []) e = absurd (omega arith)
+turned_is q (x0 ∷ x1 ∷ x2 ∷ x3 ∷ x4 ∷ x5 ∷ x6 ∷ x7 ∷ x8 ∷ x9 ∷ []) e = refl
+turned_is q (x0 ∷ x1 ∷ x2 ∷ x3 ∷ x4 ∷ x5 ∷ x6 ∷ x7 ∷ x8 ∷ x9 ∷ x10 ∷ rest) e = absurd (omega arith)
+
+-- The nine numbers in use and the tenth.
+pub numbers_are : (seed : List ℕ) (n : ℕ) → length seed ≡ 10 → turned (n / 9) seed ≡ number_at seed n 0 ∷ number_at seed n 1 ∷ number_at seed n 2 ∷ number_at seed n 3 ∷ number_at seed n 4 ∷ number_at seed n 5 ∷ number_at seed n 6 ∷ number_at seed n 7 ∷ number_at seed n 8 ∷ slice_index seed 9 ∷ []
+numbers_are seed n ten =
+    let at = number_is seed n in
+    turned_is (n / 9) seed ten ∙ sym (rw (at 0 (lit< tt), at 1 (lit< tt), at 2 (lit< tt), at 3 (lit< tt), at 4 (lit< tt), at 5 (lit< tt), at 6 (lit< tt), at 7 (lit< tt), at 8 (lit< tt)) refl)

@@ -12,10 +12,8 @@ unfoldable pub use Rattle.gen1_machine.specs.State.{changed_active, changed_cond
 pub use Rattle.gen1_machine.specs.Progress.{Action, Phase, Progress}
 unfoldable pub use Rattle.gen1_machine.specs.Progress.{choose, draw, ends, given, note, on_active, on_conditions, on_field, on_member, set_last_damage, stay, stop, ◌▸◌}
 pub use Rattle.gen1_layout.specs.Parts.{Parts}
-pub use Rattle.gen1_layout.specs.Within.{Setting, Within}
-pub use Rattle.gen1_layout.specs.Shows.{Frame, Shows, ShowsDrawn, Telling, Told}
-pub use Rattle.gen1_layout.proofs.Blocks.{active_holds, header_holds, out_holds}
-pub use Rattle.gen1_layout.proofs.Steps.{active_ok, active_written, conditions_written, header_packed, member_ok, member_written, packed_of, still_within}
+pub use Rattle.gen1_layout.specs.Shows.{Setting, Within, Frame, Shows, ShowsDrawn, Telling, Told}
+pub use Rattle.gen1_layout.proofs.Steps.{active_holds, header_holds, out_holds, active_ok, active_written, conditions_written, header_packed, member_ok, member_written, packed_of, still_within}
 pub use Rattle.gen1_layout.proofs.Counts.{number_small}
 pub use Rattle.gen1_layout.proofs.WaysBack.{header_packs, none_back, top_byte, word_back}
 pub use Rattle.gen1_layout.proofs.Chain.{acted, as_list, choose-false, choose-true, drawing, drawn_acted, drawn_as_list, drawn_from_list, drawn_goes, drawn_if_not, drawn_if_so, drawn_next, drawn_quietly, drawn_seeing, drawn_settled, drawn_stays, drawn_stops, from_list, goes, halted, if_not, if_so, noted, passing, past, put, put_damage, put_on_active, put_on_conditions, put_on_member, quietly, seeing, settled, stays, still, stops, then-goes, then-stops, told_so}

@@ -1,9 +1,22 @@
 -- The 384 bytes as their parts (docs/LAYOUT.md, "The 384 bytes of a battle"): a header of 24 bytes, and for each side
--- six members of 24 and an active block of 36.
-use Rattle.std.specs.Prelude.{List, [], drop, flat_map, slice_index, slice_index_or, slice_set, take, ℕ, ◌%◌, ◌*◌, ◌++◌, ◌+◌, ◌-◌, ◌∷◌}
+-- six members of 24 and an active block of 36. Parts are joined again, and decoded.
+use Rattle.std.specs.Prelude.{List, [], drop, flat_map, slice_index, slice_index_or, slice_set, take, ℕ, ◌%◌, ◌*◌, ◌++◌, ◌+◌, ◌-◌, ◌∷◌, None, Option, Some, if◌then◌else◌, ◌==◌}
 use Rattle.std.specs.List.{refill}
 use Rattle.gen1_machine.specs.declared.side.Side.{Side}
 use Rattle.gen1_machine.specs.declared.side.Side.TheVariants.{One, Two}
+use Rattle.std.proofs.Common.{ap, append_assoc, arith, length, refl, sym, take-append-drop, ◌≡◌, ◌∙◌}
+use Rattle.std.proofs.lemmas.List.{drop-drop, drop-take, take-take, take_all}
+use Rattle.gen1_tables.specs.declared.element.Element.{Element}
+use Rattle.gen1_tables.specs.declared.element.Element.TheVariants.{Normal, Fighting, Flying, Poison, Ground, Rock, Bug, Ghost, Fire, Water, Grass, Electric, Psychic, Ice, Dragon}
+use Rattle.gen1_stats.specs.declared.status.Status.{Status}
+use Rattle.gen1_stats.specs.declared.status.Status.TheVariants.{Healthy, Asleep, Poisoned, Burned, Frozen, Paralysed}
+use Rattle.gen1_machine.specs.declared.picks.UsedMove.{UsedMove}
+use Rattle.gen1_machine.specs.declared.picks.UsedMove.TheVariants.{Nothing, Slot, Struggle}
+use Rattle.gen1_machine.specs.declared.terms.Outcome.{Outcome}
+use Rattle.gen1_machine.specs.declared.terms.Request.{Request}
+use Rattle.gen1_machine.specs.Conditions.{Storing}
+use Rattle.gen1_machine.specs.declared.terms.Outcome.TheVariants as outcomes
+use Rattle.gen1_machine.specs.declared.terms.Request.TheVariants as requests
 
 pub record SideParts : Type 0 where
   pub members : List (List ℕ)
@@ -98,3 +111,60 @@ with_member s place block p =
 abbrev pub rewritten : ℕ → ℕ → List ℕ → List ℕ → List ℕ
 rewritten at count written bytes =
     take at bytes ++ (refill count (part at count bytes) written ++ drop count (drop at bytes))
+
+-- The parts of 384 bytes, joined, are the bytes again (docs/LAYOUT.md, "The 384 bytes of a battle"). So a battle's
+-- parts determine its bytes.
+
+-- Two adjacent parts.
+pub part-part : (a n m : ℕ) (xs : List ℕ) → part a n xs ++ part (a + n) m xs ≡ part a (n + m) xs
+part-part a n m xs =
+    let back : drop (a + n) xs ≡ drop n (drop a xs) = sym (drop-drop n a xs) in
+    let shift : take m (drop n (drop a xs)) ≡ drop n (part a (n + m) xs) = sym (drop-take n m (drop a xs)) in
+    let front : part a n xs ≡ take n (part a (n + m) xs) = sym (take-take n (n + m) (drop a xs) (omega arith)) in
+    ap (λ (l : List ℕ). part a n xs ++ take m l) back ∙ ap (λ (l : List ℕ). part a n xs ++ l) shift
+    ∙ ap (λ (l : List ℕ). l ++ drop n (part a (n + m) xs)) front ∙ take-append-drop n (part a (n + m) xs)
+
+-- The bytes of a side are its parts in a row
+
+pub side_one-joined : (xs : List ℕ) → bytes_of_side (side_parts 24 xs) ≡ part 24 180 xs
+side_one-joined xs =
+    simp append_assoc (rw (part-part 144 24 36 xs, part-part 120 24 60 xs, part-part 96 24 84 xs, part-part 72 24 108 xs, part-part 48 24 132 xs, part-part 24 24 156 xs) refl)
+
+pub side_two-joined : (xs : List ℕ) → bytes_of_side (side_parts 204 xs) ≡ part 204 180 xs
+side_two-joined xs =
+    simp append_assoc (rw (part-part 324 24 36 xs, part-part 300 24 60 xs, part-part 276 24 84 xs, part-part 252 24 108 xs, part-part 228 24 132 xs, part-part 204 24 156 xs) refl)
+
+pub joined-parts : (xs : List ℕ) → length xs ≡ 384 → joined (parts_of xs) ≡ xs
+joined-parts xs long =
+    rw (side_one-joined xs, side_two-joined xs, part-part 0 24 180 xs, part-part 0 204 180 xs) (take_all 384 xs (omega arith))
+
+-- The meaning of a field's byte, if it has one (docs/LAYOUT.md, "Header", "Member", "Active block").
+
+abbrev pub outcome_of : ℕ → Outcome
+outcome_of n =
+    if n == 0 then outcomes.Ongoing else (if n == 1 then outcomes.WinOne else (if n == 2 then outcomes.WinTwo
+    else (if n == 3 then outcomes.Tie else (if n == 4 then outcomes.Fault 1 else outcomes.Fault 2))))
+
+abbrev pub request_of_byte : ℕ → Request
+request_of_byte n = if n == 1 then requests.Move else (if n == 2 then requests.Switch else requests.Pass)
+
+-- The status of a byte and its mark.
+abbrev pub status_of : ℕ → ℕ → Status
+status_of n mark =
+    if n == 0 then Healthy else (if n == 8 then Poisoned else (if n == 16 then Burned else (if n == 32 then Frozen
+    else (if n == 64 then Paralysed else Asleep n (mark == 1)))))
+
+abbrev pub used_of : ℕ → UsedMove
+used_of n = if n == 0 then Nothing else (if n == 5 then Struggle else Slot n)
+
+abbrev pub element_of : ℕ → Element
+element_of n =
+    if n == 1 then Fighting else (if n == 2 then Flying else (if n == 3 then Poison else (if n == 4 then Ground
+    else (if n == 5 then Rock else (if n == 6 then Bug else (if n == 7 then Ghost else (if n == 8 then Fire
+    else (if n == 9 then Water else (if n == 10 then Grass else (if n == 11 then Electric else (if n == 12 then Psychic
+    else (if n == 13 then Ice else (if n == 14 then Dragon else Normal)))))))))))))
+
+-- The turns of Bide, if it is on.
+abbrev pub turns_stored : Option Storing → Option ℕ
+turns_stored None = None
+turns_stored (Some b) = Some b.turns

@@ -1,8 +1,7 @@
 -- Words for the clauses of contracts, one for each common statement, and reexports of what the clauses are about.
+use Rattle.std.specs.Prelude.{bit_or, unwrap_or, ◌^◌, ◌||◌, ◌≡◌, ◌∷◌, ◌+◌, ◌<◌, ◌≤◌}
+use Rattle.gen1_machine.specs.Layout.{disabled_slot, disabled_turns, energy_of, high_byte, low_byte, turns_of, condition_bits}
 use Rattle.gen1_layout.specs.Parts.{Parts}
-use Rattle.std.specs.Prelude.{◌+◌, ◌<◌, ◌^◌, ◌≡◌, ◌≤◌}
-use Rattle.gen1_machine.specs.Layout.{condition_bits}
-use Rattle.gen1_layout.specs.Flags.{SameNumbers, any_at, set_at}
 pub use Rattle.std.specs.Prelude.{Bool, IsTrue, List, None, Option, Some, [], false, is_some, length, map, nat_le, nat_lt, not, slice_index_or, slice_set, true, zero, ℕ}
 pub use Rattle.gen1_stats.specs.Members.{IsBetween, Member, is_asleep, is_frozen, is_living, is_paralysed}
 pub use Rattle.gen1_machine.specs.declared.side.Side.{Side}
@@ -13,8 +12,39 @@ pub use Rattle.gen1_machine.specs.State.{Active, Field, active_in, changed_activ
 pub use Rattle.gen1_machine.specs.CurrentStats.{has_number, now, now_in, stage_of, unmodified, with_penalty_of, with_stage}
 pub use Rattle.gen1_machine.specs.Moves.{move_at}
 pub use Rattle.gen1_machine.specs.Progress.{Phase, Progress, conditions, draw, status_of, stop, ◌▸◌}
-pub use Rattle.gen1_layout.specs.Within.{Packs, Setting, Within}
-pub use Rattle.gen1_layout.specs.Shows.{Frame, Shows, ShowsDrawn, Telling, Told}
+pub use Rattle.gen1_layout.specs.Shows.{Packs, Setting, Within, Frame, Shows, ShowsDrawn, Telling, Told}
+
+-- Condition bits (docs/LAYOUT.md, "Condition bits"): several of them by their places, the numbers with them, and what
+-- a change of one bit leaves as it is.
+
+-- Two sets of conditions have the same numbers.
+pub record SameNumbers (c d : ActiveConditions) : Type 0 where
+  pub bide : c.underway.bide ≡ d.underway.bide
+  pub thrash : c.underway.thrash ≡ d.underway.thrash
+  pub trapping : c.underway.trapping ≡ d.underway.trapping
+  pub confused : c.confused ≡ d.confused
+  pub substitute : c.substitute ≡ d.substitute
+  pub bad_poison : c.bad_poison ≡ d.bad_poison
+  pub disabled : c.disabled ≡ d.disabled
+
+-- The bytes of the active block that hold these numbers, from byte 21 on.
+abbrev pub count_bytes : ActiveConditions → List ℕ
+count_bytes c =
+    unwrap_or c.substitute 0 ∷ unwrap_or c.confused 0 ∷ disabled_slot c.disabled ∷ disabled_turns c.disabled ∷ unwrap_or c.bad_poison 0
+    ∷ turns_of c.underway ∷ low_byte (energy_of c.underway.bide) ∷ high_byte (energy_of c.underway.bide) ∷ []
+
+-- A set of conditions as a number, by the places of their bits.
+abbrev pub set_at : List ℕ → ℕ
+set_at [] = 0
+set_at (place ∷ places) = bit_or (set_at places) (2 ^ place)
+
+-- Whether a value is true already, or one of the bits at these places is set.
+abbrev pub holds_or_any_at : Bool → List ℕ → List Bool → Bool
+holds_or_any_at holds [] bits = holds
+holds_or_any_at holds (place ∷ places) bits = holds_or_any_at (holds || slice_index_or bits place false) places bits
+
+abbrev pub any_at : List ℕ → List Bool → Bool
+any_at places bits = holds_or_any_at false places bits
 
 -- Reading: whenever the parts represent a field, a value is this value of the field
 

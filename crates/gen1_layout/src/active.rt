@@ -4,7 +4,7 @@ ghost use Rattle.gen1_layout.specs.Words.{Active, Field, Member, Packs, Reads, S
 ghost use Rattle.gen1_tables.specs.declared.effect.Stat.TheVariants.{Attack, Defense, Special, Speed};
 ghost use Rattle.gen1_machine.specs.Valid.{IsUsedMove};
 ghost use Rattle.gen1_machine.specs.Layout.{active_block};
-ghost use Rattle.gen1_layout.specs.SentOut.{sent_as, stats_of};
+ghost use Rattle.gen1_layout.specs.Shows.{sent_as, stats_of};
 
 use crate::Packed;
 use crate::codes::{byte_of_used, element_from, used_from};

@@ -3,7 +3,7 @@ ghost use Rattle.std.specs.Prelude.{unwrap_or, ℕ, ◌≡◌, ◌≤◌};
 ghost use Rattle.gen1_stats.specs.Members.{is_marked};
 ghost use Rattle.gen1_machine.specs.Rules.{bit_of};
 ghost use Rattle.gen1_machine.specs.Layout.{disabled_slot, disabled_turns, outcome_byte, request_byte, status_byte, used_byte};
-ghost use Rattle.gen1_layout.specs.Decoding.{element_of, outcome_of, request_of_byte, status_of, used_of};
+ghost use Rattle.gen1_layout.specs.Parts.{element_of, outcome_of, request_of_byte, status_of, used_of};
 
 use gen1_machine::{DisabledSlot, Outcome, Request, UsedMove};
 use gen1_stats::Status;

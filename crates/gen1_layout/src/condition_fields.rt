@@ -1,13 +1,12 @@
 //! The conditions of a member that is out (docs/MECHANICS.md, "Conditions"), with their numbers (docs/LAYOUT.md, "Active block",
 //! "Condition bits").
-ghost use Rattle.gen1_layout.specs.Words.{ActiveConditions, Changes, Field, List, None, Reads, ReadsAny, ReadsFlag, Setting, Some, Within, WritesConditions, WritesConditionsIf, WritesFlag, active_in, changed_conditions, conditions_in, false, length, member_in, slice_index_or, slice_set, underway_in, ℕ};
+ghost use Rattle.gen1_layout.specs.Words.{ActiveConditions, Changes, Field, List, None, Reads, ReadsAny, ReadsFlag, Setting, Some, Within, WritesConditions, WritesConditionsIf, WritesFlag, active_in, changed_conditions, conditions_in, false, length, member_in, slice_index_or, slice_set, underway_in, ℕ, count_bytes};
 ghost use Rattle.std.specs.Prelude.{if◌then◌else◌, slice_index, ◌-◌, ◌<◌, ◌^◌, ◌≡◌, ◌≤◌};
 ghost use Rattle.gen1_machine.specs.Conditions.{after_haze, broken_off};
 ghost use Rattle.gen1_machine.specs.Layout.{active_block, condition_bits, conditions_number, energy_of, turns_byte};
 ghost use Rattle.gen1_machine.specs.Valid.{IsCount};
-ghost use Rattle.gen1_layout.specs.Decoding.{turns_stored};
-ghost use Rattle.gen1_layout.specs.Flags.{count_bytes};
-ghost use Rattle.gen1_layout.specs.Storable.{IsStorableConditions, IsStorableDisabled};
+ghost use Rattle.gen1_layout.specs.Parts.{turns_stored};
+ghost use Rattle.gen1_layout.specs.Shows.{IsStorableConditions, IsStorableDisabled};
 
 use crate::codes::{byte_of_count, byte_of_disabled_slot, byte_of_disabled_turns};
 use crate::offsets::{

@@ -1,7 +1,7 @@
 //! The conditions of a member that is out, as bits (docs/LAYOUT.md, "Condition bits").
 ghost use Rattle.std.specs.Prelude.{Bool, List, [], codes, false, slice_index_or, slice_set, ℕ, ◌<◌, ◌^◌, ◌≡◌, ◌∷◌, ⊤, length};
 ghost use Rattle.gen1_machine.specs.Layout.{number_of_bits};
-ghost use Rattle.gen1_layout.specs.Flags.{any_at, set_at};
+ghost use Rattle.gen1_layout.specs.Words.{any_at, set_at};
 
 use bitflags::{Flag, Flags, bitflag_items};
 

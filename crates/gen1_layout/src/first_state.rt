@@ -6,7 +6,7 @@ ghost use Rattle.gen1_machine.specs.State.{first_state, known_in, usual_terms};
 ghost use Rattle.gen1_machine.specs.Valid.{IsTerms};
 ghost use Rattle.gen1_machine.specs.Layout.{header_block, high_byte, low_byte, member_block, member_blocks};
 ghost use Rattle.gen1_layout.specs.Parts.{active_of, side_of, with_side};
-ghost use Rattle.gen1_layout.specs.Within.{Stands};
+ghost use Rattle.gen1_layout.specs.Shows.{Stands};
 
 use crate::Packed;
 use gen1_machine::{Rules, Side, TurnLimit};
@@ -64,7 +64,7 @@ impl Packed {
         self.header_mut().copy_from_slice(header);
     }
 
-    #[tactic(auto, using(crate::proofs::Begun::begin_step))]
+    #[tactic(auto, using(crate::proofs::WaysBack::begin_step))]
     fn begin_side(&mut self, side: Side, members: &[Member])
         requires few { length members.now ≤ 6 }
         requires blank { (side_of side self.old).members ≡ replicate 6 (replicate 24 0) }

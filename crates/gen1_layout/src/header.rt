@@ -1,7 +1,7 @@
 //! The fields of the header (docs/LAYOUT.md, "Header").
 ghost use Rattle.std.specs.Prelude.{◌<◌, ◌≡◌};
 ghost use Rattle.gen1_layout.specs.Words.{Changes, ChangesPacked, Field, Packs, Reads, ReadsPacked, ReadsPackedSetting, ReadsSetting, Setting, Some, Within, request_of, with_last_damage, with_next_turn, with_outcome, with_requests, ℕ};
-ghost use Rattle.gen1_rolls.specs.Link.{ring_at};
+ghost use Rattle.gen1_rolls.specs.Steady.{ring_at};
 ghost use Rattle.gen1_machine.specs.Valid.{IsOutcome};
 
 use crate::Packed;

@@ -1,7 +1,7 @@
 //! Reading a battle from bytes (docs/LAYOUT.md, "Loading").
 ghost use Rattle.std.specs.Prelude.{◌≡◌, ◌↔◌, IfOk, IsOk, Some};
 ghost use Rattle.gen1_layout.specs.Loading.{number_of, words_of, IsLoadedAs, IsReadAs};
-ghost use Rattle.gen1_layout.specs.LoadingMeaning.{IsBattle, StandsForSome};
+ghost use Rattle.gen1_layout.specs.LoadingLaws.{IsBattle, StandsForSome};
 
 mod active;
 mod bytes;
@@ -91,7 +91,7 @@ impl Packed {
 }
 
 // The form of version 3 of bytes that represent a valid state, or the first test that they fail.
-#[tactic(auto, using(crate::proofs::LoadingAnswers::read_stands))]
+#[tactic(auto, using(crate::proofs::LoadingForms::read_stands))]
 fn form_of(bytes: &[u8]) -> Result<[u8; 384], LoadFault>
     ensures tests { IsReadAs result bytes.now }
     ensures battle { IsOk result ↔ IsBattle bytes.now }

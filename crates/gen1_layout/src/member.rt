@@ -6,7 +6,7 @@ ghost use Rattle.gen1_stats.specs.Members.{is_marked};
 ghost use Rattle.gen1_stats.specs.declared.status.Status.TheVariants.{Healthy};
 ghost use Rattle.gen1_machine.specs.State.{has_fallen_in};
 ghost use Rattle.gen1_machine.specs.Valid.{IsStatus};
-ghost use Rattle.gen1_layout.specs.SentOut.{own_stats_of};
+ghost use Rattle.gen1_layout.specs.Shows.{own_stats_of};
 
 use crate::Packed;
 use crate::codes::{byte_of_status, mark_of_status, status_from};

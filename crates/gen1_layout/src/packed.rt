@@ -4,7 +4,7 @@ ghost use Rattle.gen1_layout.specs.Words.{Field, Packs, Reads, ReadsPacked, Sett
 ghost use Rattle.std.specs.Borrow.{sem};
 ghost use Rattle.gen1_machine.specs.State.{State};
 ghost use Rattle.gen1_machine.specs.Layout.{active_block, bytes_of, header_block, member_block};
-ghost use Rattle.gen1_layout.specs.Within.{blocks_of, state_in};
+ghost use Rattle.gen1_layout.specs.Shows.{blocks_of, state_in};
 ghost use Rattle.gen1_layout.specs.Parts.{active_of, bytes_of_side, bytes_of_sides, in_order, joined, member_at as member_starts, member_of, out_at, part, parts_of, side_at, side_of};
 ghost use Rattle.gen1_layout.specs.Lending.{LendsActive, LendsBothSides, LendsHeader, LendsInTwo, LendsMember, LendsOut, LendsPart, LendsSide, LendsSides};
 
@@ -24,8 +24,7 @@ pub struct Packed([u8; 384]);
 impl Model for Packed {
     ghost use Rattle.std.specs.Prelude.{◌≡◌, length};
     ghost use Rattle.std.proofs.Common.{ap};
-    ghost use Rattle.gen1_layout.specs.Joined.{joined-parts};
-    ghost use Rattle.gen1_layout.specs.Parts.{Parts, joined, parts_of};
+    ghost use Rattle.gen1_layout.specs.Parts.{joined-parts, Parts, joined, parts_of};
 
     ghost Value = { Parts };
 

@@ -26,9 +26,7 @@ use Rattle.gen1_machine.specs.ManyHits.{crash, missed_move, note_effectiveness, 
 use Rattle.gen1_machine.specs.Ruling.{Ruling}
 use Rattle.gen1_machine.specs.Action.{set_going_on, see_if_going_on, gate_or_held, move_taken_in, spend_pp, use_move, prelude, lead_up, usual_damage, damage_of, strike, carry_out, action_parts, keep_accuracy, begin, resume, act}
 use Rattle.gen1_machine.proofs.Costs.{Bound, Costs, Reached, all_covered, goes, ends, both, may_stop, either, ◌⨟◌, ◌⊳◌, more, ends-reached, choose-costs, unchosen-costs, given-costs, stay-costs, stop-costs, active-costs, conditions-costs, member-costs, damage-costs, action-costs, action_else-costs, fault-costs, draw-costs, until-costs, note-costs}
-use Rattle.gen1_machine.proofs.GateCosts.{starts-costs, lasts-costs, ends-costs, missed-costs, lose-costs, gain-costs, cant-costs, gate-costs, land-costs, hit_or_miss-costs, note_miss-costs}
-use Rattle.gen1_machine.proofs.EffectCosts.{loops_late, RulingCosts, raise-costs, confuse-costs, early_effect-costs, late_effect-costs, late_effect-loops, side_effect-costs, side_effect-loops}
-use Rattle.gen1_machine.proofs.QuietMoves.{late-quiet}
+use Rattle.gen1_machine.proofs.EffectCosts.{starts-costs, lasts-costs, ends-costs, missed-costs, lose-costs, gain-costs, cant-costs, gate-costs, land-costs, hit_or_miss-costs, note_miss-costs, loops_late, RulingCosts, raise-costs, confuse-costs, early_effect-costs, late_effect-costs, late_effect-loops, side_effect-costs, side_effect-loops, late-quiet}
 
 module _ {limit : ℕ} where
   -- Before any damage

@@ -8,8 +8,7 @@ use Rattle.std.proofs.Common.{Bool, IsFalse, IsTrue, None, Option, Some, ap, apâ
 use Rattle.std.proofs.lemmas.Bool.{falseâ‰¢true}
 use Rattle.std.proofs.Math.Nat.{add-mod_right, mod-eq_of_lt, mul_assoc, mul_comm}
 use Rattle.gen1_rolls.specs.Streams.{byte_at, first, first_within, span, Drawn, HoldsEveryByte, IsFirst, IsStream, Stream}
-use Rattle.gen1_rolls.proofs.First.{first-exists, first-finds}
-use Rattle.gen1_rolls.proofs.Period.{byte-small, every_byte}
+use Rattle.gen1_rolls.proofs.First.{first-exists, first-finds, byte-small, every_byte}
 use Rattle.gen1_machine.specs.State.{Field}
 use Rattle.gen1_machine.specs.Progress.{Progress}
 use Rattle.gen1_machine.specs.Laws.{count_of, leads_to, sum_below, sum_over, Done, Draw, HasProbability, IsDealt, IsShare, Search, SharesDependOnFields, Tree, UpdatesHaveProbabilities}

@@ -5,7 +5,7 @@ use Rattle.gen1_tables.specs.declared.element.Element.{Element}
 use Rattle.gen1_tables.specs.declared.element.Element.TheVariants as elements
 use Rattle.gen1_tables.specs.Types.{number_of}
 use Rattle.gen1_rolls.specs.Streams.{IsStream, Link}
-use Rattle.gen1_rolls.proofs.Period.{byte-small}
+use Rattle.gen1_rolls.proofs.First.{byte-small}
 use Rattle.gen1_stats.specs.declared.known_move.KnownMove.{KnownMove}
 use Rattle.gen1_stats.specs.declared.status.Status.{Status}
 use Rattle.gen1_stats.specs.declared.status.Status.TheVariants.{Asleep, Burned, Frozen, Healthy, Paralysed, Poisoned}

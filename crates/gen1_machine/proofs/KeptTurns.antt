@@ -22,17 +22,15 @@ use Rattle.gen1_machine.specs.SwitchingIn.{send_out, sent_out, with_sent_out}
 use Rattle.gen1_machine.specs.Turn.{do_part, end_spent_trapping, set_picked, Acts, Sends, Suffers}
 use Rattle.gen1_machine.specs.Valid.{IsUnderway, KeepsAccuracy}
 use Rattle.gen1_machine.specs.Plans.{FitsPick, IsPlanned, Plan}
-use Rattle.gen1_machine.proofs.Keeps.{choose-keeps, given-keeps, note-keeps, on_active-keeps, on_conditions-keeps, stay-keeps, then-keeps, Keeps, Spares}
-use Rattle.gen1_machine.proofs.Leads.{choose-leads, keeps-leads, stay-leads, then-leads, Leads}
+use Rattle.gen1_machine.proofs.Keeps.{choose-keeps, given-keeps, note-keeps, on_active-keeps, on_conditions-keeps, stay-keeps, then-keeps, Keeps, Spares, choose-leads, keeps-leads, stay-leads, then-leads, Leads}
 use Rattle.gen1_machine.proofs.Sound.{party-valid, planned-holds, untied}
 use Rattle.gen1_machine.proofs.SoundWalk.{gate_or_held-sound, see_if_going_on-sound}
 use Rattle.gen1_machine.proofs.Acts.{begin-keeps, begin-quiet, either, leads-passes, no-bide, passes-leads, passes-then, quiet-sound, After, IfStopped, Quiet}
 use Rattle.gen1_machine.proofs.Steady as steadies
 use Rattle.gen1_machine.proofs.Steady.{act-steady, begin-steady, gate_or_held-steady, residual-steady, ruling-steady, with_penalty_of-leaves, with_picked_move-leaves, without_flinch-leaves, without_trapping-leaves, Own}
 use Rattle.gen1_machine.proofs.TiedTurns.{Tied}
-use Rattle.gen1_machine.proofs.ValidTurns.{both-keep}
-use Rattle.gen1_machine.proofs.KeptAccuracy.{active-at, aimed, at-faults, at-hurts, at-steady, foe-own, fresh-alone, fresh-breaks, fresh-keeps, kept-stands, keeps_on, off-keeps, stands-alone, stands-fresh, tested-keeps, then-runs, At, Fresh, Keeps_on, Off, On, Ready, Runs, Stands, Tested}
-use Rattle.gen1_machine.proofs.KeptActs.{carry_out-off, carry_out-runs}
+use Rattle.gen1_machine.proofs.ValidSteps.{both-keep}
+use Rattle.gen1_machine.proofs.KeptAccuracy.{active-at, aimed, at-faults, at-hurts, at-steady, foe-own, fresh-alone, fresh-breaks, fresh-keeps, kept-stands, keeps_on, off-keeps, stands-alone, stands-fresh, tested-keeps, then-runs, At, Fresh, Keeps_on, Off, On, Ready, Runs, Stands, Tested, carry_out-off, carry_out-runs}
 
 -- What is noted as an action goes on
 

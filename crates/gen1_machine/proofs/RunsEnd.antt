@@ -22,11 +22,9 @@ use Rattle.gen1_machine.specs.OfferedChoices.{offered, offered_for}
 use Rattle.gen1_machine.specs.Step.{answered, close_update, is_among, offers, opened, run, run_by, step, step_by, update, update_for, Answer, Stepped}
 use Rattle.gen1_machine.specs.Valid.{IsAsked, IsStarted, IsState, IsUnstarted, StandsAs}
 use Rattle.gen1_machine.specs.Laws.{accepted_in, is_accepted, RunsEnd}
-use Rattle.gen1_machine.proofs.Keeps.{note-keeps, stay-keeps}
-use Rattle.gen1_machine.proofs.Leads.{both-go, choose-goes, given-goes, keeps-leads, stay-goes, then-goes, then-leads, told-goes, Goes, Leads}
-use Rattle.gen1_machine.proofs.Bench.{alike-free, alike-itself, alike-most, bench, bench-most, between-free, between-weaker, lives-behind, most-free, sent-most, sent-shorter, AtMost, Between}
-use Rattle.gen1_machine.proofs.Turns.{send_one, send_two, start-leads, the_fallen_faint-free, turn-leads, Begins}
-use Rattle.gen1_machine.proofs.Promised.{offered-passes, offered-promises, offered-replaces, Replaces}
+use Rattle.gen1_machine.proofs.Keeps.{note-keeps, stay-keeps, both-go, choose-goes, given-goes, keeps-leads, stay-goes, then-goes, then-leads, told-goes, Goes, Leads}
+use Rattle.gen1_machine.proofs.Turns.{alike-free, alike-itself, alike-most, bench, bench-most, between-free, between-weaker, lives-behind, most-free, sent-most, sent-shorter, AtMost, Between, send_one, send_two, start-leads, the_fallen_faint-free, turn-leads, Begins}
+use Rattle.gen1_machine.proofs.Fitting.{offered-passes, offered-promises, offered-replaces, Replaces}
 use Rattle.gen1_machine.proofs.Settled.{settle-settles, Decides, Done, Due, Next, Settled}
 
 -- The requests fit the members that are out

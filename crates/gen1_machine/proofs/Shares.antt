@@ -4,8 +4,7 @@ use Rattle.std.proofs.lemmas.Bool.{false≢true}
 use Rattle.std.proofs.Math.Nat.{mul-div_cancel_left, mul_assoc, mul_comm}
 use Rattle.std.proofs.lemmas.Nat.{mul-le}
 use Rattle.gen1_rolls.specs.Streams.{byte_at, first, span, Drawn, IsStream, Stream}
-use Rattle.gen1_rolls.proofs.First.{first-fails_all, first-finds, first_within-is, first_within-none}
-use Rattle.gen1_rolls.proofs.Period.{byte-small}
+use Rattle.gen1_rolls.proofs.First.{first-fails_all, first-finds, first_within-is, first_within-none, byte-small}
 use Rattle.gen1_machine.specs.State.{Field}
 use Rattle.gen1_machine.specs.Progress.{Progress}
 use Rattle.gen1_machine.specs.Laws.{count_of, leads_to, sum_below, sum_over, Done, Draw, IsDealt, IsShare, Search, SharesAreProbabilities, Tree}

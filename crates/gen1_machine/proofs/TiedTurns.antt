@@ -16,16 +16,13 @@ use Rattle.gen1_machine.specs.Ruling.{ruling_of}
 use Rattle.gen1_machine.specs.TurnOrder.{in_order, in_order_of_rank, in_order_of_speed, toss}
 use Rattle.gen1_machine.specs.Turn.{both_act, both_pick, both_switch, do_part, do_parts, end_spent_trapping, end_turn, is_cut, of_side, one_picks, play_turn, set_picked, turn, Acts, Part, Sends, Suffers}
 use Rattle.gen1_machine.specs.Plans.{with_plan, Any, Comes, FitsPick, InRange, IsPlanned, Plan, PlanOf}
-use Rattle.gen1_machine.proofs.Keeps.{on_conditions-keeps, then-keeps, Keeps}
-use Rattle.gen1_machine.proofs.Leads.{choose-leads, given-leads, keeps-leads, stay-leads, then-leads, Leads}
-use Rattle.gen1_machine.proofs.Bench.{between-free, Between}
-use Rattle.gen1_machine.proofs.Turns.{part-suffers}
-use Rattle.gen1_machine.proofs.Sound.{planned-sound}
-use Rattle.gen1_machine.proofs.SoundFacts.{draw-leads}
+use Rattle.gen1_machine.proofs.Keeps.{on_conditions-keeps, then-keeps, Keeps, choose-leads, given-leads, keeps-leads, stay-leads, then-leads, Leads}
+use Rattle.gen1_machine.proofs.Turns.{between-free, Between, part-suffers}
+use Rattle.gen1_machine.proofs.Sound.{planned-sound, draw-leads}
 use Rattle.gen1_machine.proofs.SoundWalk.{conditions-spared}
 use Rattle.gen1_machine.proofs.Tame.{without_flinch-tame}
 use Rattle.gen1_machine.proofs.Fitting.{Fits}
-use Rattle.gen1_machine.proofs.ValidTurns.{act_part, both-keep, both-plan_of, both-planned, both_plan, comes-kept, end_spent, fits-comes, pick-plan, range-kept, room-free, send_part, sends-room, set_picked-keeps, suffers_part, sure, Room, Sure}
+use Rattle.gen1_machine.proofs.ValidSteps.{act_part, both-keep, both-plan_of, both-planned, both_plan, comes-kept, end_spent, fits-comes, pick-plan, range-kept, room-free, send_part, sends-room, set_picked-keeps, suffers_part, sure, Room, Sure}
 
 -- A fact for the beginning of a part, and one for its end. If no member has fallen and the battle goes on, the next
 -- part may begin.

@@ -1,36 +1,36 @@
--- The costs of a turn and of an update.
-use Rattle.std.proofs.Common.{[], Bool, List, arith, false, length, lit≤, nat_lt, refl, subst, sym, true, ℕ, ◌+◌, ◌∷◌, ◌≡◌, ◌≤◌}
+-- The costs of a turn and of an update, and the bounds as the contracts state them.
+use Rattle.std.proofs.Common.{[], Bool, List, arith, false, length, lit≤, nat_lt, refl, subst, sym, true, ℕ, ◌+◌, ◌∷◌, ◌≡◌, ◌≤◌, ap}
 use Rattle.gen1_rolls.specs.Streams.{byte_at, span}
 use Rattle.gen1_stats.specs.declared.status.Status.{Status}
 use Rattle.gen1_stats.specs.declared.status.Status.TheVariants.{Poisoned, Burned}
 use Rattle.gen1_machine.specs.declared.side.Side.{Side}
 use Rattle.gen1_machine.specs.declared.side.Side.TheVariants.{One, Two}
 use Rattle.gen1_machine.specs.declared.terms.Outcome.{Outcome}
-use Rattle.gen1_machine.specs.declared.terms.Outcome.TheVariants as outcomes
 use Rattle.gen1_machine.specs.declared.terms.Request.{Request}
-use Rattle.gen1_machine.specs.declared.terms.Request.TheVariants as requests
 use Rattle.gen1_machine.specs.declared.event.DamageSource.{DamageSource}
-use Rattle.gen1_machine.specs.declared.event.DamageSource.TheVariants as sources
 use Rattle.gen1_machine.specs.declared.event.Event.{Event}
 use Rattle.gen1_machine.specs.declared.picks.Pick.{Pick}
 use Rattle.gen1_machine.specs.declared.choice.Choice.{Choice}
-use Rattle.gen1_machine.specs.declared.choice.Choice.TheVariants as choices
 use Rattle.gen1_machine.specs.Sides.{other}
 use Rattle.gen1_machine.specs.LogBytes.{code}
 use Rattle.gen1_machine.specs.Progress.{Phase, choose, given, draw, Progress}
 use Rattle.gen1_machine.specs.ResidualDamage.{worsen, suffer, drained_by, suffer_seed, suffer_status, residual}
-use Rattle.gen1_machine.specs.Ruling.{Ruling}
+use Rattle.gen1_machine.specs.Ruling.{Ruling, ruling_of}
 use Rattle.gen1_machine.specs.Action.{begin, act}
 use Rattle.gen1_machine.specs.SwitchingIn.{send_out, send_if_chosen, replace, start}
 use Rattle.gen1_machine.specs.TurnOrder.{rank_in, toss, in_order_of_speed, in_order_of_rank, in_order}
 use Rattle.gen1_machine.specs.Turn.{Part, Sends, Acts, Suffers, do_part, end_spent_trapping, end_turn, do_parts, both_act, set_picked, both_pick, switch_then_act, one_picks, both_switch, play_turn, turn}
 use Rattle.gen1_machine.specs.Falls.{faint_if_fallen, faint_in_order, the_fallen_faint, ask_nothing, battle_ends, end_if_decided, ask_for_switches, ask_for_moves, settle, close}
-use Rattle.gen1_machine.specs.Step.{update_for, close_update, update}
-use Rattle.gen1_machine.specs.Bounds.{Spends, CostsAtMost}
+use Rattle.gen1_machine.specs.Step.{update_for, close_update, update, opened, events_of, accepted, answered, offers, step_by, step, Accepted}
+use Rattle.gen1_machine.specs.Bounds.{Spends, CostsAtMost, ActIsBounded, SwitchIsBounded, ResidualIsBounded, OrderIsBounded, EndIsBounded, TurnIsBounded, UpdateIsBounded, Bounded, StepIsBounded}
 use Rattle.gen1_machine.proofs.Costs.{Bound, Costs, Reached, Limited, hits_planned, spends-trans, spends-more, spends-draws, goes, ends, both, may_stop, either, ◌⨟◌, ◌⊳◌, more, ends-reached, reached-ends, choose-costs, given-costs, stay-costs, stop-costs, field-costs, active-costs, conditions-costs, action-costs, note-costs, told-costs}
-use Rattle.gen1_machine.proofs.GateCosts.{lose-costs, gain-costs}
-use Rattle.gen1_machine.proofs.EffectCosts.{RulingCosts}
+use Rattle.gen1_machine.proofs.EffectCosts.{lose-costs, gain-costs, RulingCosts, ruling_of-costs}
 use Rattle.gen1_machine.proofs.ActionCosts.{act-reached}
+use Rattle.gen1_machine.specs.State.{is_over, State}
+use Rattle.gen1_machine.specs.declared.terms.Outcome.TheVariants as outcomes
+use Rattle.gen1_machine.specs.declared.terms.Request.TheVariants as requests
+use Rattle.gen1_machine.specs.declared.event.DamageSource.TheVariants as sources
+use Rattle.gen1_machine.specs.declared.choice.Choice.TheVariants as choices
 
 module _ {limit : ℕ} where
   -- Residual damage
@@ -301,3 +301,53 @@ update-spends r h one two p i spans =
     let x : Progress = record q { stopped = false } in
     let v = anywhere 0 3 9 (close r q.field.outcome) (λ limit five. close-costs r q.field.outcome) x refl m.limited.1 in
     spends-trans m.spends (record { forward = v.forward; drawn = v.drawn; new = v.new; appended = v.appended; counted = v.counted; coded = v.coded })
+
+-- The bounds, as the contracts state them.
+
+pub act_is_bounded : ActIsBounded
+act_is_bounded t s pick p r i = (act-reached (ruling_of t) (ruling_of-costs t) s pick p r i).spends
+
+pub switch_is_bounded : SwitchIsBounded
+switch_is_bounded s place = anywhere 0 1 10 (send_out s place) (λ limit five. more (send_out-costs s place) refl)
+
+pub residual_is_bounded : ResidualIsBounded
+residual_is_bounded s = anywhere 0 3 26 (residual s) (λ limit five. more (residual-costs s) refl)
+
+pub order_is_bounded : OrderIsBounded
+order_is_bounded = order-spends
+
+pub end_is_bounded : EndIsBounded
+end_is_bounded = end-spends
+
+pub turn_is_bounded : TurnIsBounded
+turn_is_bounded t one two =
+    anywhere 4647 44 266 (turn (ruling_of t) one two) (λ limit five. turn-costs (ruling_of t) (ruling_of-costs t) five one two)
+
+pub update_is_bounded : UpdateIsBounded
+update_is_bounded t = update-spends (ruling_of t) (ruling_of-costs t)
+
+-- The update of a state keeps to the bounds.
+bounded : (s : State) (one two : Choice) → let p = update (ruling_of s.terms) one two (opened s) in Bounded s p.events (accepted s p).state
+bounded s one two =
+    let w = update_is_bounded s.terms one two (opened s) refl (omega arith) in
+    record {
+      forward = w.forward;
+      draws = omega (arith, w.drawn);
+      few = rw w.appended (omega (arith, w.counted));
+      short = rw w.appended (omega (arith, w.coded));
+    }
+
+answered-bounded : (s : State) (over one two : Bool) (p : Progress) (events : List Event)
+    → Bounded s p.events (accepted s p).state
+    → (answered s over one two p).answer ≡ Accepted events → Bounded s events (answered s over one two p).state
+unfolding answered
+answered-bounded s true one two p events b e = absurd (cc)
+answered-bounded s false false two p events b e = absurd (cc)
+answered-bounded s false true false p events b e = absurd (cc)
+answered-bounded s false true true p events b e = subst (λ es. Bounded s es (accepted s p).state) (ap events_of e) b
+
+pub step_is_bounded : StepIsBounded
+unfolding step step_by
+step_is_bounded s one two events e =
+    answered-bounded s (is_over s.field.outcome) (offers s One one) (offers s Two two) (update (ruling_of s.terms) one two (opened s)) events
+    (bounded s one two) e

@@ -1,34 +1,37 @@
--- Every update of a valid state leads to a valid state.
-use Rattle.std.proofs.Common.{Bool, List, [], arith, false, inl, inr, refl, subst, sym, true, ℕ, ◌∙◌, ◌∷◌, ◌≡◌, ◌⊎◌}
-use Rattle.std.proofs.lemmas.Bool.{false≢true}
+-- A battle of two teams is valid before its first update, and every update of a valid state leads to a valid state.
+use Rattle.std.proofs.Common.{Bool, List, [], arith, false, inl, inr, refl, subst, sym, true, ℕ, ◌∙◌, ◌∷◌, ◌≡◌, ◌⊎◌, length, ◌<◌}
+use Rattle.std.proofs.lemmas.Bool.{false≢true, lt-ltb}
 use Rattle.gen1_rolls.specs.Streams.{IsStream, Link}
 use Rattle.gen1_machine.specs.declared.choice.Choice.{Choice}
 use Rattle.gen1_machine.specs.declared.side.Side.{Side}
 use Rattle.gen1_machine.specs.declared.side.Side.TheVariants.{One, Two}
 use Rattle.gen1_machine.specs.declared.terms.Outcome.{Outcome}
-use Rattle.gen1_machine.specs.declared.terms.Outcome.TheVariants as outcomes
 use Rattle.gen1_machine.specs.declared.terms.Request.{Request}
-use Rattle.gen1_machine.specs.declared.terms.Request.TheVariants as requests
-use Rattle.gen1_machine.specs.State.{is_over, with_requests, Field, State, Terms}
+use Rattle.gen1_machine.specs.State.{is_over, with_requests, Field, State, Terms, member_at, not_sent_out}
 use Rattle.gen1_machine.specs.Progress.{◌▸◌, Progress}
 use Rattle.gen1_machine.specs.Ruling.{ruling_of}
 use Rattle.gen1_machine.specs.SwitchingIn.{replace, start}
 use Rattle.gen1_machine.specs.Falls.{ask_nothing, close, faint_if_fallen, faint_in_order, settle, the_fallen_faint}
 use Rattle.gen1_machine.specs.OfferedChoices.{offered_for}
 use Rattle.gen1_machine.specs.Step.{answered, close_update, is_among, offers, opened, run, run_by, step, step_by, update, update_for}
-use Rattle.gen1_machine.specs.Valid.{IsField, IsStarted, IsTerms, IsUnstarted, KeepsAccuracy}
-use Rattle.gen1_machine.specs.Laws.{StatesStayValid}
-use Rattle.gen1_machine.proofs.Keeps.{choose-keeps, given-keeps, note-keeps, on_field-keeps, stay-keeps, then-keeps, told-keeps, Keeps, Spares}
-use Rattle.gen1_machine.proofs.Leads.{then-goes}
+use Rattle.gen1_machine.specs.Valid.{IsField, IsStarted, IsTerms, IsUnstarted, KeepsAccuracy, FallenAreHealthy, IsMembersUnder, IsStatus}
+use Rattle.gen1_machine.specs.Laws.{StatesStayValid, FirstStatesAreValid}
+use Rattle.gen1_machine.proofs.Keeps.{choose-keeps, given-keeps, note-keeps, on_field-keeps, stay-keeps, then-keeps, told-keeps, Keeps, Spares, then-goes}
 use Rattle.gen1_machine.proofs.Settled.{settle-settles, Done, Due, Next, Settled}
 use Rattle.gen1_machine.proofs.RunsEnd.{offered-is, state-ready, step-lower, the_fallen_faint-goes, Ready, Waits}
 use Rattle.gen1_machine.proofs.Fitting.{offered-fits}
 use Rattle.gen1_machine.proofs.TiedTurns.{turn-tied}
 use Rattle.gen1_machine.proofs.ValidSteps.{opened-sure, update-valid, Stands}
-use Rattle.gen1_machine.proofs.FallenFaint.{replace-keeps, update-standing, Standing}
+use Rattle.gen1_machine.proofs.Fallen.{replace-keeps, update-standing, Standing}
 use Rattle.gen1_machine.proofs.Steady.{softens-fallen}
 use Rattle.gen1_machine.proofs.KeptAccuracy.{at-steady, stands-alone}
 use Rattle.gen1_machine.proofs.KeptTurns.{both-of, kept-tied, send_out-stands, Both}
+use Rattle.gen1_stats.specs.declared.status.Status.{Status}
+use Rattle.gen1_stats.specs.declared.status.Status.TheVariants.{Healthy}
+use Rattle.gen1_stats.specs.Members.{is_living, nobody, IsTeam, Member}
+use Rattle.gen1_machine.specs.Rules.{Rules}
+use Rattle.gen1_machine.specs.declared.terms.Outcome.TheVariants as outcomes
+use Rattle.gen1_machine.specs.declared.terms.Request.TheVariants as requests
 
 -- The kept accuracy through the end of an update
 
@@ -181,3 +184,47 @@ pub states_stay_valid : StatesStayValid
 states_stay_valid s pairs h =
     let ran = run-stood s.terms s.seed s pairs h.terms h.seed (record { terms_stay = refl; seed_stays = refl; stood = h.field }) (state-ready s h) in
     record { terms = rw ran.terms_stay h.terms; seed = rw ran.seed_stays h.seed; field = ran.stood }
+
+-- A battle of two teams is valid before its first update.
+
+healthy-status : (rules : Rules) (status : Status) → status ≡ Healthy → IsStatus rules status
+healthy-status rules status e = subst (IsStatus rules) (sym e) tt
+
+team-members : (rules : Rules) (team : List Member) → IsTeam team → IsMembersUnder rules team
+team-members rules team h = record {
+  size = h.size;
+  each = λ k d lt. record {
+    numbers = (h.members k d lt).member;
+    species = (h.members k d lt).species;
+    moves = (h.members k d lt).moves;
+    status = healthy-status rules _ (h.members k d lt).healthy;
+  };
+}
+
+team-healthy : (team : List Member) → IsTeam team → FallenAreHealthy team
+team-healthy team h k d lt fallen = (h.members k d lt).healthy
+
+team-first : (team : List Member) → IsTeam team → is_living (member_at 1 (not_sent_out team)) ≡ true
+team-first team h =
+    let lt : 0 < length team = omega (arith, h.size) in
+    lt-ltb _ _ (omega (arith, (h.members 0 nobody lt).unhurt, (h.members 0 nobody lt).member.max))
+
+pub first_states_are_valid : FirstStatesAreValid
+first_states_are_valid terms one two seed limit team_one team_two is_seed = record {
+  terms = limit;
+  seed = is_seed;
+  field = inl (record {
+    members_one = team-members terms.rules one team_one;
+    members_two = team-members terms.rules two team_two;
+    fallen_one = team-healthy one team_one;
+    fallen_two = team-healthy two team_two;
+    first_one = team-first one team_one;
+    first_two = team-first two team_two;
+    nobody_one = refl;
+    nobody_two = refl;
+    last_damage = omega arith;
+    turn = refl;
+    outcome = refl;
+    requests = record { one = refl; two = refl };
+  });
+}

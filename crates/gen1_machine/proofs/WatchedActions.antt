@@ -33,8 +33,7 @@ use Rattle.gen1_machine.specs.Ruling.{Ruling}
 use Rattle.gen1_machine.specs.Action.{set_going_on, see_if_going_on, gate_or_held, move_taken_in, spend_pp, use_move, prelude, lead_up, usual_damage, damage_of, strike, carry_out, action_parts, accuracy_to_keep, keep_accuracy, begin, resume, act}
 use Rattle.gen1_machine.specs.View.{on_shown, not_shown, shows, View}
 use Rattle.gen1_machine.proofs.Costs.{and-left, and-right}
-use Rattle.gen1_machine.proofs.Showing.{AllOut, kept, keeps-member, Silent, silent-active, silent-conditions, told-member}
-use Rattle.gen1_machine.proofs.Watching.{seeing, Runs, Rests, Lands, Leads, Seen, Halted, Still, Broken, Tells, Anything, fallen_view, Fell, Stands, Fallen, MayFall, Faulted, after-leads, before-leads, ◌⊳◌, choose-tells, if-sees, given-tells, draw-tells, until-tells, stay-tells, stop-leads, stop-tells, fault-tells, action-tells, active-tells, conditions-tells, member-tells, damage-tells, field-ahead, still-ahead, note-tells, starts-tells, ends-tells, lasts-tells, lose-tells, gain-tells}
+use Rattle.gen1_machine.proofs.Watching.{AllOut, kept, keeps-member, Silent, silent-active, silent-conditions, told-member, seeing, Runs, Rests, Lands, Leads, Seen, Halted, Still, Broken, Tells, Anything, fallen_view, Fell, Stands, Fallen, MayFall, Faulted, after-leads, before-leads, ◌⊳◌, choose-tells, if-sees, given-tells, draw-tells, until-tells, stay-tells, stop-leads, stop-tells, fault-tells, action-tells, active-tells, conditions-tells, member-tells, damage-tells, field-ahead, still-ahead, note-tells, starts-tells, ends-tells, lasts-tells, lose-tells, gain-tells}
 use Rattle.gen1_machine.proofs.WatchedGate.{missed-tells, cant-tells, gate-tells, land-tells, hit_or_miss-tells, note_miss-tells}
 use Rattle.gen1_machine.proofs.WatchedEffects.{shifts_well, RulingTells, Lags, apart-fallen, on-side-same, raise-lags, raise-tells, confuse-tells, early_effect-tells, late_effect-tells, side_effect-tells}
 

@@ -26,8 +26,7 @@ use Rattle.gen1_machine.specs.EarlyEffects.{confused_by, confuse, confuse_foe, t
 use Rattle.gen1_machine.specs.LateEffects.{ready_to_sleep, put_to_sleep, lower_foes_stat, bide_for, start_bide, late_effect}
 use Rattle.gen1_machine.specs.SideEffects.{happens_below, by_chance, thaw, may_inflict, may_poison, may_confuse, flinch, kept_away_effect, names_slot, disable_for, disable_slot, disable, must_recharge, side_effect}
 use Rattle.gen1_machine.specs.View.{side_view, on_side_view, if_out, sees_volatile, sees_rise, sees_drop, sees, side_shows, shows, SideView, View}
-use Rattle.gen1_machine.proofs.Showing.{BothOut, AllOut, Keeps, kept, keeps-active, keeps-conditions, silent-conditions, silent-penalty, out-shows, told-active, changed-shows, same-stage, at_stage, recomputed-place, recomputed-shows, new_stage-shows}
-use Rattle.gen1_machine.proofs.Watching.{seeing, Runs, Leads, Seen, Tells, Ahead, Anything, fallen_view, after-leads, before-leads, ◌⊳◌, choose-tells, if-sees, given-tells, given-sees, draw-tells, until-tells, stay-tells, more-ahead, still-ahead, note-told, sees_all-last, conditions-tells, note-tells, told-tells, start-seen, boost-seen, unboost-seen, starts-tells, lose-tells, gain-tells, status-tells, inflict-tells, cure-tells}
+use Rattle.gen1_machine.proofs.Watching.{BothOut, AllOut, Keeps, kept, keeps-active, keeps-conditions, silent-conditions, silent-penalty, out-shows, told-active, changed-shows, same-stage, at_stage, recomputed-place, recomputed-shows, new_stage-shows, seeing, Runs, Leads, Seen, Tells, Ahead, Anything, fallen_view, after-leads, before-leads, ◌⊳◌, choose-tells, if-sees, given-tells, given-sees, draw-tells, until-tells, stay-tells, more-ahead, still-ahead, note-told, sees_all-last, conditions-tells, note-tells, told-tells, start-seen, boost-seen, unboost-seen, starts-tells, lose-tells, gain-tells, status-tells, inflict-tells, cure-tells}
 use Rattle.gen1_machine.proofs.WatchedGate.{fail-tells, fails_if-tells, must_hit-tells}
 
 -- Effects that shift a stage by at least one.

@@ -109,7 +109,7 @@ pub fn runs_are_local()
 {}
 
 /// A battle of two teams is valid before its first update (docs/MECHANICS.md, "Teams").
-#[tactic(auto, using(crate::proofs::FirstStates::first_states_are_valid))]
+#[tactic(auto, using(crate::proofs::ValidStates::first_states_are_valid))]
 pub fn first_states_are_valid()
     ensures { FirstStatesAreValid }
 {}

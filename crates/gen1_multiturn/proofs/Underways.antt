@@ -1,11 +1,10 @@
 -- What is underway for a member that is out, of which at most one thing is on, and its counts after a turn.
-use Rattle.std.proofs.Common.{◌+◌, ◌-◌, ◌≡◌, ◌≤◌}
-use Rattle.gen1_layout.proofs.Words.{ActiveConditions, Field, None, Option, Progress, Side, Some, ap, arith, changed_active, changed_conditions, false, is_some, refl, subst, sym, true, underway_in, ℕ, ◌∙◌}
+use Rattle.std.proofs.Common.{◌+◌, ◌-◌, ◌≡◌, ◌≤◌, refl}
+use Rattle.gen1_layout.proofs.Words.{Field, None, Option, Progress, Side, Some, ap, arith, changed_active, changed_conditions, false, is_some, subst, sym, true, underway_in, ℕ, ◌∙◌}
 use Rattle.std.proofs.lemmas.Bool.{false≢true}
 use Rattle.gen1_tables.specs.declared.effect.Effect.{Effect}
-use Rattle.gen1_tables.specs.declared.effect.Effect.TheVariants as effects
 use Rattle.gen1_machine.specs.declared.side.Side.TheVariants.{One, Two}
-use Rattle.gen1_machine.specs.Conditions.{energy_with, with_bide_storing, with_thrash_one_less, with_trapping_one_less, Storing, Underway}
+use Rattle.gen1_machine.specs.Conditions.{energy_with, with_bide_storing, with_thrash_one_less, with_trapping_one_less, Storing, Underway, with_charging, with_invulnerability, ActiveConditions}
 use Rattle.gen1_machine.specs.Layout.{energy_of}
 use Rattle.gen1_tables.specs.Effects.{bides, thrashes, traps}
 use Rattle.gen1_machine.specs.Plans.{Doing, Plan}
@@ -14,10 +13,12 @@ use Rattle.gen1_machine.specs.Sides.{other}
 use Rattle.gen1_machine.specs.State.{Terms}
 use Rattle.gen1_machine.specs.Valid.{IsUnderway}
 use Rattle.gen1_machine.proofs.Sound.{party-valid, planned-holds}
-use Rattle.gen1_layout.specs.Decoding.{turns_stored}
-use Rattle.gen1_layout.specs.Storable.{IsStorableUnderway}
+use Rattle.gen1_layout.specs.Parts.{turns_stored}
+use Rattle.gen1_layout.specs.Shows.{IsStorableUnderway}
 use Rattle.gen1_hits.specs.Planned.{Follows}
 use Rattle.gen1_hits.proofs.Planning.{nothing-there}
+use Rattle.gen1_layout.specs.Words.{SameNumbers}
+use Rattle.gen1_tables.specs.declared.effect.Effect.TheVariants as effects
 
 none-on : {A : Type 0} (o : Option A) → bit_of (is_some o) ≤ 0 → o ≡ None
 none-on None h = refl
@@ -119,3 +120,13 @@ module _ (terms : Terms) (plan : Side → Plan) (s : Side) (e : Effect) (p : Pro
   alone-biding tie h =
       let u = tied h in
       (nothing-there _ (λ on. sym (bides-thrashes e tie) ∙ u.thrash_tied on), nothing-there _ (λ on. sym (bides-traps e tie) ∙ u.trapping_tied on))
+
+-- Setting a condition without a number keeps all numbers.
+
+pub charged-same : (c : ActiveConditions) → SameNumbers (with_charging c) c
+unfolding with_charging
+charged-same c = record { bide = refl; thrash = refl; trapping = refl; confused = refl; substitute = refl; bad_poison = refl; disabled = refl }
+
+pub hidden-same : (c : ActiveConditions) → SameNumbers (with_invulnerability c) c
+unfolding with_invulnerability
+hidden-same c = record { bide = refl; thrash = refl; trapping = refl; confused = refl; substitute = refl; bad_poison = refl; disabled = refl }

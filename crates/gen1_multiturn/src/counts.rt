@@ -1,7 +1,7 @@
 //! How many times a move hits or holds (docs/MECHANICS.md, "Many hits", "Going on").
 ghost use Rattle.std.specs.Prelude.{◌≤◌};
 ghost use Rattle.gen1_rolls.specs.Draws.{Steps};
-ghost use Rattle.gen1_multiturn.specs.Counts.{DrawsCount};
+ghost use Rattle.gen1_multiturn.specs.MoveHits.{DrawsCount};
 
 use gen1_rolls::{Look, Rolls};
 

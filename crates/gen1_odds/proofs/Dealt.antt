@@ -13,7 +13,7 @@ use Rattle.gen1_machine.specs.Progress.{active, choose, draw, draw_until, fault,
 use Rattle.gen1_machine.specs.Sides.{other}
 use Rattle.gen1_machine.specs.State.{active_in, with_last_damage, Field}
 use Rattle.gen1_layout.proofs.Chain.{choose-false, choose-true, then-goes}
-use Rattle.gen1_multiturn.specs.Counter.{can_counter_in}
+use Rattle.gen1_multiturn.specs.MoveHits.{can_counter_in}
 use Rattle.gen1_odds.specs.Laws.{misses, Acting, CounterCounts, FixedCounts, ImmuneMisses, OneHitCounts, SlowerMisses}
 use Rattle.gen1_odds.specs.Trials.{goes_on_in, is_slower_in}
 use Rattle.gen1_odds.proofs.Tested.{hit-goes, hit-late, hit-misses}

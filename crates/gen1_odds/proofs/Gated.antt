@@ -23,7 +23,7 @@ use Rattle.gen1_machine.specs.Sides.{other}
 use Rattle.gen1_machine.specs.State.{active_in, changed_active, changed_conditions, conditions_in, status_in, underway_in, Field}
 use Rattle.gen1_layout.proofs.Chain.{choose-false, choose-true, then-goes, then-stops}
 use Rattle.gen1_status.specs.Gate.{is_held}
-use Rattle.gen1_status.proofs.Untested.{held-is, held-not}
+use Rattle.gen1_status.proofs.Told.{held-is, held-not}
 use Rattle.gen1_odds.specs.Acting.{is_barred, is_out_of_action, is_stopped, still_confused, still_disabled}
 use Rattle.gen1_odds.specs.Laws.{after_confusion, GateCounts}
 

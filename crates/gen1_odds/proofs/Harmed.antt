@@ -8,7 +8,7 @@ use Rattle.gen1_tables.specs.declared.effect.Stat.TheVariants.{Accuracy, Attack,
 use Rattle.gen1_tables.specs.declared.element.Element.{Element}
 use Rattle.gen1_tables.specs.declared.element.Element.TheVariants.{Poison}
 use Rattle.gen1_rolls.specs.Streams.{byte_at, IsStream}
-use Rattle.gen1_rolls.proofs.Period.{byte-small}
+use Rattle.gen1_rolls.proofs.First.{byte-small}
 use Rattle.gen1_stats.specs.declared.status.Status.{Status}
 use Rattle.gen1_stats.specs.declared.status.Status.TheVariants.{Asleep, Burned, Frozen, Healthy, Paralysed, Poisoned}
 use Rattle.gen1_stats.specs.Members.{is_healthy, nobody, IsBetween, Member}
@@ -30,9 +30,8 @@ use Rattle.gen1_machine.specs.State.{active_in, changed_active, changed_conditio
 use Rattle.gen1_machine.specs.Valid.{IsField}
 use Rattle.gen1_layout.proofs.Chain.{choose-false, choose-true, then-goes}
 use Rattle.gen1_odds.specs.Laws.{shows, Hitting, SideEffectCounts}
-use Rattle.gen1_odds.specs.Reasons.{is_lowest}
+use Rattle.gen1_odds.specs.Trials.{is_lowest, has_status_in, has_substitute_in}
 use Rattle.gen1_odds.specs.Odds.{effect_draws, harm_draws, poison_draws, resists_freeze, resists_status, unless_guarded}
-use Rattle.gen1_odds.specs.Trials.{has_status_in, has_substitute_in}
 
 none-below : (b : ℕ) → nat_lt b 0 ≡ false
 none-below b = grind (arith, nat_tests)

@@ -7,5 +7,3 @@ pub mod Dealt
 pub mod Gated
 -- A side effect, by its draw.
 pub mod Harmed
--- The chances of uses in a row.
-pub mod UsesInARow

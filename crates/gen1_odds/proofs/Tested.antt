@@ -11,8 +11,7 @@ use Rattle.gen1_layout.proofs.Chain.{choose-false, choose-true, then-goes, then-
 use Rattle.gen1_odds.specs.declared.reasons.Reason.{Reason}
 use Rattle.gen1_odds.specs.Laws.{fails_by, misses, Acting, BreaksIfNeeded, ConfusionCounts, MustHitCounts, ParalysisCounts, PoisonCounts, SeedCounts, TestCounts}
 use Rattle.gen1_odds.specs.Odds.{hits_by, passes}
-use Rattle.gen1_odds.specs.Reasons.{first, settled_reason, why_settled}
-use Rattle.gen1_odds.specs.Trials.{base_in}
+use Rattle.gen1_odds.specs.Trials.{first, settled_reason, why_settled, base_in}
 use Rattle.std.proofs.lemmas.Bool.Decides.{nat_tests}
 use Rattle.gen1_tables.specs.declared.element.Element.TheVariants.{Electric, Grass, Ground, Poison}
 use Rattle.gen1_tables.specs.Types.{same_type}

@@ -24,8 +24,7 @@ use Rattle.gen1_odds.specs.declared.reasons.Reason.{Reason}
 use Rattle.gen1_odds.specs.declared.reasons.Reason.TheVariants as reasons
 use Rattle.gen1_odds.specs.KnockOut.{mixed}
 use Rattle.gen1_odds.specs.Odds.{critical_draws, deals_usual, draws_by, flag, hit_draws, how_many, side_effect_draws}
-use Rattle.gen1_odds.specs.Reasons.{hurts_in}
-use Rattle.gen1_odds.specs.Trials.{charges_first, traps_on_in}
+use Rattle.gen1_odds.specs.Trials.{hurts_in, charges_first, traps_on_in}
 
 -- The pick of a move
 

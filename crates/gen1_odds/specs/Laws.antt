@@ -22,13 +22,12 @@ use Rattle.gen1_machine.specs.Sides.{other}
 use Rattle.gen1_machine.specs.StageShift.{stage_in}
 use Rattle.gen1_machine.specs.State.{active_in, conditions_in, underway_in, Field, Terms}
 use Rattle.gen1_machine.specs.Valid.{IsField}
-use Rattle.gen1_multiturn.specs.Counter.{can_counter_in}
+use Rattle.gen1_multiturn.specs.MoveHits.{can_counter_in}
 use Rattle.gen1_odds.specs.declared.reasons.Reason.{Reason}
 use Rattle.gen1_odds.specs.Acting.{is_stopped, still_confused}
 use Rattle.gen1_odds.specs.KnockOut.{needed}
 use Rattle.gen1_odds.specs.Odds.{passes, side_effect_draws}
-use Rattle.gen1_odds.specs.Reasons.{confusion_reason, paralysis_reason, poison_reason, seed_reason}
-use Rattle.gen1_odds.specs.Trials.{goes_on_in, has_status_in, is_slower_in}
+use Rattle.gen1_odds.specs.Trials.{confusion_reason, paralysis_reason, poison_reason, seed_reason, goes_on_in, has_status_in, is_slower_in}
 
 -- An action of a side that has settled its move, and has neither missed nor stopped.
 pub record Acting (s : Side) (move : Move) (p : Progress) : Type 0 where

@@ -1,7 +1,5 @@
 -- The kinds of use of a move, and what a use finds in a battle.
 pub mod Trials
--- Why a use can't hit.
-pub mod Reasons
 -- The odds of a use of a move.
 pub mod Odds
 -- The chance that one use knocks out the foe, or two.

@@ -5,8 +5,7 @@ ghost use Rattle.gen1_layout.specs.Words.{Reads, active_in, conditions_in, is_pa
 ghost use Rattle.gen1_machine.specs.Picks.{bars, is_idle, must_continue};
 ghost use Rattle.gen1_status.specs.Gate.{is_held};
 ghost use Rattle.gen1_odds.specs.Acting.{acting_draws, action_odds_in, confusion_draws, holding_draws, holding_reason, how_many_pairs, acts_by, hurting_draws, is_barred, is_bound, is_kept, is_out_of_action, landing_draws, paralysis_draws, pick_of, slot_of, still_confused, still_disabled};
-ghost use Rattle.gen1_odds.specs.Reasons.{hurts_in};
-ghost use Rattle.gen1_odds.specs.Trials.{ReadsUnder};
+ghost use Rattle.gen1_odds.specs.Trials.{hurts_in, ReadsUnder};
 
 use crate::chances::{critical_draws, deals_usual, hit_draws};
 use crate::odds::flag;

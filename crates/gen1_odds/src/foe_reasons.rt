@@ -5,7 +5,7 @@ ghost use Rattle.gen1_layout.specs.Words.{Reads, active_in, conditions_in, membe
 ghost use Rattle.gen1_tables.specs.declared.element.Element.TheVariants.{Grass};
 ghost use Rattle.gen1_machine.specs.SideEffects.{has_pp};
 ghost use Rattle.gen1_machine.specs.State.{has_type};
-ghost use Rattle.gen1_odds.specs.Reasons.{confusion_reason, disable_reason, is_lowest, lower_reason, seed_reason};
+ghost use Rattle.gen1_odds.specs.Trials.{confusion_reason, disable_reason, is_lowest, lower_reason, seed_reason};
 
 use crate::own_reasons::stands_at;
 use crate::reasons::{Reason, first, settled_reason};

@@ -3,7 +3,7 @@ ghost use Rattle.std.specs.Prelude.{◌≡◌};
 ghost use Rattle.gen1_layout.specs.Words.{Reads, has_number, move_at};
 ghost use Rattle.gen1_machine.specs.EarlyEffects.{resists_healing};
 ghost use Rattle.gen1_machine.specs.StageShift.{stands_at};
-ghost use Rattle.gen1_odds.specs.Reasons.{conversion_reason, heal_reason, if_up, raise_reason, screen_reason, substitute_reason};
+ghost use Rattle.gen1_odds.specs.Trials.{conversion_reason, heal_reason, if_up, raise_reason, screen_reason, substitute_reason};
 
 use crate::reasons::Reason;
 use crate::sights::{has_light_screen, has_reflect, has_substitute, is_invulnerable};

@@ -1,10 +1,8 @@
 //! Why a use of a move can't hit (docs/MECHANICS.md, "Hit test", "Damage formula", "Fixed damage and one-hit moves").
 ghost use Rattle.std.specs.Prelude.{None, Some, if◌then◌else◌, ◌≡◌, ◌≤◌};
-ghost use Rattle.gen1_layout.specs.Words.{Reads, active_in, move_at};
+ghost use Rattle.gen1_layout.specs.Words.{Reads, active_in, move_at, conditions_in, other, status_in};
 ghost use Rattle.gen1_machine.specs.HitTest.{eats_dreams};
-ghost use Rattle.gen1_odds.specs.Reasons.{bide_by, counter_by, counter_reason, first, fixed_reason, hurts_in, one_hit_reason, reason_by, reason_code, reason_in, reason_number, settled_reason, usual_reason, why_harmless, why_missed, why_settled};
-ghost use Rattle.gen1_odds.specs.Trials.{ReadsUnder, is_slower_in};
-ghost use Rattle.gen1_layout.specs.Words.{conditions_in, other, status_in};
+ghost use Rattle.gen1_odds.specs.Trials.{bide_by, counter_by, counter_reason, first, fixed_reason, hurts_in, one_hit_reason, reason_by, reason_code, reason_in, reason_number, settled_reason, usual_reason, why_harmless, why_missed, why_settled, ReadsUnder, is_slower_in};
 
 use crate::foe_reasons::{confusion_reason, disable_reason, lower_reason, seed_reason};
 use crate::own_reasons::{

@@ -4,8 +4,7 @@ ghost use Rattle.gen1_layout.specs.Words.{Reads, active_in, move_at};
 ghost use Rattle.gen1_tables.specs.declared.element.Element.TheVariants.{Electric, Ground};
 ghost use Rattle.gen1_tables.specs.Types.{same_type};
 ghost use Rattle.gen1_machine.specs.State.{has_type};
-ghost use Rattle.gen1_odds.specs.Reasons.{clause_reason, paralysis_reason, poison_reason, sleep_reason};
-ghost use Rattle.gen1_odds.specs.Trials.{ReadsUnder};
+ghost use Rattle.gen1_odds.specs.Trials.{clause_reason, paralysis_reason, poison_reason, sleep_reason, ReadsUnder};
 
 use crate::reasons::{Reason, first, settled_reason};
 use crate::sights::{has_status, has_substitute, has_type, is_recharging};

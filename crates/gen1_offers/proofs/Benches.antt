@@ -12,10 +12,9 @@ use Rattle.gen1_machine.specs.Rules.{bit_of}
 use Rattle.gen1_machine.specs.State.{Active, Field, Party, Terms, active_in, member_at, party}
 use Rattle.gen1_machine.specs.Valid.{IsUnstarted}
 use Rattle.gen1_layout.specs.Parts.{Parts}
-use Rattle.gen1_layout.specs.Within.{Setting, Within}
-use Rattle.gen1_offers.specs.Bench.{Follows, KeepsOut}
-use Rattle.gen1_offers.specs.OfferedMask.{living_of, passing}
-use Rattle.gen1_offers.proofs.Digits.{and_false}
+use Rattle.gen1_layout.specs.Shows.{Setting, Within}
+use Rattle.gen1_offers.specs.OfferedMask.{Follows, KeepsOut, living_of, passing}
+use Rattle.gen1_offers.proofs.MaskDigits.{and_false}
 
 -- the place of a member that is out
 

@@ -1,35 +1,161 @@
 -- The digits of the offered choices, as the code gathers them from the bytes.
-use Rattle.std.proofs.Common.{All, Bool, List, None, Option, Some, [], ap, arith, false, get_or, inl, inr, length, nat_lt, not, refl, subst, suc, sym, true, zero, ℕ, ◌&&◌, ◌%◌, ◌*◌, ◌++◌, ◌<◌, ◌==◌, ◌^◌, ◌≡◌, ◌≤◌, ◌⊎◌, ◌∙◌, ◌∷◌}
-use Rattle.std.proofs.lemmas.Bool.{cases_lt}
-use Rattle.std.proofs.lemmas.List.Elements.{All-get_or}
-use Rattle.std.proofs.lemmas.Nat.{and_assoc, and_mask}
+use Rattle.std.proofs.Common.{Bool, List, [], ap, arith, false, inl, inr, length, nat_lt, refl, set, suc, sym, true, zero, ℕ, ◌&&◌, ◌%◌, ◌*◌, ◌+◌, ◌-◌, ◌/◌, ◌<◌, ◌==◌, ◌^◌, ◌≡◌, ◌≢◌, ◌≤◌, ◌⊎◌, ◌∙◌, ◌∷◌, All, None, Option, Some, get_or, not, subst, ◌++◌, if◌then◌else◌, is_some, ◌||◌}
+use Rattle.std.proofs.lemmas.Bool.Decides.{eqb_tells, nat_tests}
+use Rattle.std.proofs.lemmas.Nat.{and_comm, and_mod, and_shr, one_shl, and_assoc, and_mask}
+use Rattle.std.proofs.lemmas.Nat.Bits.{and_pow}
 use Rattle.std.specs.Int.{bit_not, w32}
 use Rattle.std.specs.Int.RustNames.{bit_and}
+use Rattle.gen1_machine.specs.Rules.{bit_of, Rules}
+use Rattle.gen1_machine.specs.Layout.{number_of_bits, member_block, request_byte, status_byte}
+use Rattle.gen1_layout.proofs.Counts.{and_nothing, bits_clear, bits_of-is, power, power_is}
+use Rattle.gen1_offers.specs.OfferedMask.{passing, all_choices, digits_of, is_usable, living_of, moves_and_pass, usable_of}
+use Rattle.gen1_offers.proofs.OfferedSet.{other_number, asks_nothing, one_if, slots_usable, in_moves, no_move, usable_slot, no_move_to_switch, no_pass_to_switch, switch_offered, switches_out, or_no, or_yes, committed_slot, no_pass_to_move, no_slot}
+use Rattle.std.proofs.lemmas.Bool.{cases_lt, false≢true}
+use Rattle.std.proofs.lemmas.List.Elements.{All-get_or}
 use Rattle.gen1_stats.specs.declared.known_move.KnownMove.{KnownMove}
 use Rattle.gen1_stats.specs.declared.status.Status.{Status}
 use Rattle.gen1_stats.specs.declared.status.Status.TheVariants.{Asleep, Burned, Frozen, Healthy, Paralysed, Poisoned}
-use Rattle.gen1_stats.specs.Members.{IsKnown, IsMember, Member, nothing_known, sleeps_or_freezes}
+use Rattle.gen1_stats.specs.Members.{IsKnown, IsMember, Member, nothing_known, sleeps_or_freezes, is_living}
 use Rattle.gen1_machine.specs.declared.side.Side.{Side}
 use Rattle.gen1_machine.specs.declared.side.Side.TheVariants.{One, Two}
 use Rattle.gen1_machine.specs.declared.choice.Choice.{Choice}
-use Rattle.gen1_machine.specs.declared.choice.Choice.TheVariants as choices
 use Rattle.gen1_machine.specs.declared.picks.DisabledSlot.{DisabledSlot}
 use Rattle.gen1_machine.specs.declared.terms.Outcome.{Outcome}
-use Rattle.gen1_machine.specs.declared.terms.Outcome.TheVariants as outcomes
 use Rattle.gen1_machine.specs.declared.terms.Request.{Request}
-use Rattle.gen1_machine.specs.declared.terms.Request.TheVariants as requests
-use Rattle.gen1_machine.specs.Layout.{member_block, number_of_bits, request_byte, status_byte}
-use Rattle.gen1_machine.specs.OfferedChoices.{bars_slot, has_no_slot_in, is_committed, moves_offered, offered_for, or_struggle, switches_offered, usable_from}
-use Rattle.gen1_machine.specs.Rules.{Rules}
-use Rattle.gen1_machine.specs.State.{Field, State, Terms, active_in, conditions_in, is_over, known_in, member_in, request_of, underway_in}
-use Rattle.gen1_machine.specs.Step.{is_among}
+use Rattle.gen1_machine.specs.OfferedChoices.{bars_slot, has_no_slot_in, is_committed, moves_offered, offered_for, or_struggle, switches_offered, usable_from, offered}
+use Rattle.gen1_machine.specs.State.{Field, State, Terms, active_in, conditions_in, is_over, known_in, member_in, request_of, underway_in, member_at, party, status_in}
+use Rattle.gen1_machine.specs.Step.{is_among, offers}
 use Rattle.gen1_machine.specs.Valid.{IsStarted, IsState, IsStatus, IsUnstarted, StandsAs}
-use Rattle.gen1_offers.specs.OfferedMask.{all_choices, digits_of, is_usable, living_of, moves_and_pass, passing, usable_of}
-use Rattle.gen1_offers.proofs.BetweenUpdates.{asks_nothing}
-use Rattle.gen1_offers.proofs.Collecting.{one_if, slots_usable}
-use Rattle.gen1_offers.proofs.Digits.{and_true, either_way, passing-set, taken_out}
-use Rattle.gen1_offers.proofs.OfferedSet.{in_moves, no_move, other_number, usable_slot}
-use Rattle.gen1_offers.proofs.OneChoice.{no_move_to_switch, no_pass_to_switch, switch_offered, switches_out}
+use Rattle.gen1_machine.specs.Sides.{other}
+use Rattle.gen1_machine.specs.declared.choice.Choice.TheVariants as choices
+use Rattle.gen1_machine.specs.declared.terms.Outcome.TheVariants as outcomes
+use Rattle.gen1_machine.specs.declared.terms.Request.TheVariants as requests
+
+-- Binary digits as a list of tests: clearing one of them, and the digits of four bytes.
+
+pub equal_number : (n k : ℕ) → n ≡ k → (n == k) ≡ true
+equal_number n k e = by (eqb_tells n k)
+  where
+    by : (((n == k) ≡ true) × (n ≡ k)) ⊎ (((n == k) ≡ false) × (n ≢ k)) → (n == k) ≡ true
+    by (inl h) = h.0
+    by (inr h) = absurd (h.1 e)
+
+pub either_way : (n k : ℕ) → (n == k) ≡ (k == n)
+either_way n k = by (eqb_tells n k)
+  where
+    by : (((n == k) ≡ true) × (n ≡ k)) ⊎ (((n == k) ≡ false) × (n ≢ k)) → (n == k) ≡ (k == n)
+    by (inl h) = h.0 ∙ sym (equal_number k n (sym h.1))
+    by (inr h) = h.0 ∙ sym (other_number k n (λ e. h.1 (sym e)))
+
+pub and_true : (b : Bool) → (b && true) ≡ b
+and_true true = refl
+and_true false = refl
+
+pub and_false : (b : Bool) → (b && false) ≡ false
+and_false true = refl
+and_false false = refl
+
+passing-behind : (k out : ℕ) (bs : List Bool) → out < k → passing k out bs ≡ bs
+passing-behind k out [] behind = refl
+passing-behind k out (b ∷ bs) behind =
+    rw (other_number k out (λ e. omega (arith, e)), and_true b) (ap (λ (l : List Bool). b ∷ l) (passing-behind (k + 1) out bs (omega arith)))
+
+pub passing-set : (k j out : ℕ) (bs : List Bool) → out ≡ k + j → set bs j false ≡ passing k out bs
+passing-set k j out [] at = refl
+passing-set k zero out (b ∷ bs) at =
+    rw (equal_number k out (omega (arith, at)), and_false b) (ap (λ (l : List Bool). false ∷ l) (sym (passing-behind (k + 1) out bs (omega (arith, at)))))
+passing-set k (suc j) out (b ∷ bs) at =
+    rw (other_number k out (λ e. omega (arith, e, at)), and_true b) (ap (λ (l : List Bool). b ∷ l) (passing-set (k + 1) j out bs (omega (arith, at))))
+
+-- An `&` with all bits but one.
+pub taken_out : (bs : List Bool) (k : ℕ) → k < length bs → length bs ≤ 32
+    → bit_and (number_of_bits bs) (bit_not w32 (1 * 2 ^ k % 2 ^ 32)) ≡ number_of_bits (set bs k false)
+taken_out bs k inside few =
+    let one : 1 * 2 ^ k % 2 ^ 32 ≡ power k = one_shl k 32 (omega arith) ∙ power_is k in
+    ap (λ (n : ℕ). bit_and (number_of_bits bs) (bit_not w32 n)) one
+    ∙ ap (λ (n : ℕ). bit_and n (bit_not w32 (power k))) (bits_of-is bs)
+    ∙ bits_clear bs k 32 inside few
+    ∙ sym (bits_of-is (set bs k false))
+
+-- Clearing one of six places.
+pub place_out : (bs : List Bool) (place : ℕ) → length bs ≡ 6 → 1 ≤ place → place ≤ 6
+    → bit_and (number_of_bits bs) (bit_not w32 (1 * 2 ^ (place - 1) % 2 ^ 32)) ≡ number_of_bits (passing 1 place bs)
+place_out bs place six least most =
+    taken_out bs (place - 1) (omega arith) (omega arith) ∙ ap number_of_bits (passing-set 1 (place - 1) place bs (omega (arith, least)))
+
+-- Adding a digit where there is none.
+pub digit-added : (bs : List Bool) (k : ℕ) (b : Bool) → k < length bs → number_of_bits (set bs k false) + bit_of b * 2 ^ k ≡ number_of_bits (set bs k b)
+digit-added [] k b inside = absurd (omega (arith, inside))
+digit-added (x ∷ bs) zero true inside = omega arith
+digit-added (x ∷ bs) zero false inside = omega arith
+digit-added (x ∷ bs) (suc k) true inside = omega (arith, digit-added bs k true (omega (arith, inside)))
+digit-added (x ∷ bs) (suc k) false inside = omega (arith, digit-added bs k false (omega (arith, inside)))
+
+pub six_below : (a b c d e f : Bool) (high : List Bool)
+    → number_of_bits (a ∷ b ∷ c ∷ d ∷ e ∷ f ∷ []) + 64 * number_of_bits high ≡ number_of_bits (a ∷ b ∷ c ∷ d ∷ e ∷ f ∷ high)
+six_below a b c d e f high = omega arith
+
+-- The highest bits of four bytes, gathered
+
+eight : (x m : ℕ) → bit_and x (256 * m + 128) ≡ 256 * bit_and (x / 256) m + x / 128 % 2 * 128
+eight x m =
+    let above : bit_and x (256 * m + 128) / 2 ^ 8 ≡ bit_and (x / 2 ^ 8) ((256 * m + 128) / 2 ^ 8) = and_shr x (256 * m + 128) 8 in
+    let half : (256 * m + 128) / 256 ≡ m = omega arith in
+    let upper : bit_and x (256 * m + 128) / 256 ≡ bit_and (x / 256) m = above ∙ ap (bit_and (x / 256)) half in
+    let below : bit_and x (256 * m + 128) % 2 ^ 8 ≡ bit_and (x % 2 ^ 8) ((256 * m + 128) % 2 ^ 8) = and_mod x (256 * m + 128) 8 in
+    let rest : (256 * m + 128) % 256 ≡ 128 = omega arith in
+    let one : bit_and (x % 256) 128 ≡ x % 256 / 128 % 2 * 128 = and_pow (x % 256) 7 in
+    let lower : bit_and x (256 * m + 128) % 256 ≡ x % 256 / 128 % 2 * 128 = below ∙ ap (bit_and (x % 256)) rest ∙ one in
+    omega arith
+
+highest : (q : ℕ) → bit_and q 0x80808080
+    ≡ q / 128 % 2 * 128 + 256 * (q / 256 / 128 % 2 * 128 + 256 * (q / 256 / 256 / 128 % 2 * 128 + 256 * (q / 256 / 256 / 256 / 128 % 2 * 128)))
+highest q =
+    let first : bit_and q 0x80808080 ≡ 256 * bit_and (q / 256) 0x808080 + q / 128 % 2 * 128 = eight q 0x808080 in
+    let second : bit_and (q / 256) 0x808080 ≡ 256 * bit_and (q / 256 / 256) 0x8080 + q / 256 / 128 % 2 * 128 = eight (q / 256) 0x8080 in
+    let third : bit_and (q / 256 / 256) 0x8080 ≡ 256 * bit_and (q / 256 / 256 / 256) 0x80 + q / 256 / 256 / 128 % 2 * 128 = eight (q / 256 / 256) 0x80 in
+    let fourth : bit_and (q / 256 / 256 / 256) 0x80 ≡ 256 * bit_and (q / 256 / 256 / 256 / 256) 0 + q / 256 / 256 / 256 / 128 % 2 * 128 = eight (q / 256 / 256 / 256) 0 in
+    let last : bit_and (q / 256 / 256 / 256 / 256) 0 ≡ 0 = and_comm (q / 256 / 256 / 256 / 256) 0 ∙ and_nothing (q / 256 / 256 / 256 / 256) in
+    omega arith
+
+gathered : (a b c d : Bool) → (bit_of a * 128 + 256 * (bit_of b * 128 + 256 * (bit_of c * 128 + 256 * (bit_of d * 128)))) * 0x204081 % 2 ^ 32 / 2 ^ 28
+    ≡ number_of_bits (a ∷ b ∷ c ∷ d ∷ [])
+gathered false false false false = refl
+gathered false false false true = refl
+gathered false false true false = refl
+gathered false false true true = refl
+gathered false true false false = refl
+gathered false true false true = refl
+gathered false true true false = refl
+gathered false true true true = refl
+gathered true false false false = refl
+gathered true false false true = refl
+gathered true false true false = refl
+gathered true false true true = refl
+gathered true true false false = refl
+gathered true true false true = refl
+gathered true true true false = refl
+gathered true true true true = refl
+
+-- A byte below 128 plus 127 has its highest bit exactly if the byte isn't 0.
+positive : (n : ℕ) → 0 < n → nat_lt 0 n ≡ true
+positive n h = grind (arith, nat_tests)
+
+top : (a : ℕ) → a ≤ 128 → (a + 127) / 128 ≡ bit_of (nat_lt 0 a)
+top zero small = refl
+top (suc n) small = rw (positive (suc n) (omega arith)) (let one : (suc n + 127) / 128 ≡ 1 = omega arith in one)
+
+pub four_bytes : (a b c d four : ℕ) → a ≤ 63 → b ≤ 63 → c ≤ 63 → d ≤ 63 → four ≡ a + b * 256 + c * 65536 + d * 16777216
+    → bit_and ((four + 0x7f7f7f7f) % 2 ^ 32) 0x80808080 * 0x204081 % 2 ^ 32 / 2 ^ 28 ≡ number_of_bits (nat_lt 0 a ∷ nat_lt 0 b ∷ nat_lt 0 c ∷ nat_lt 0 d ∷ [])
+four_bytes a b c d four small_a small_b small_c small_d is =
+    let q : ℕ = (four + 0x7f7f7f7f) % 2 ^ 32 in
+    let whole : q ≡ (a + 127) + 256 * ((b + 127) + 256 * ((c + 127) + 256 * (d + 127))) = omega arith in
+    let one : q / 128 % 2 ≡ bit_of (nat_lt 0 a) = omega (arith, top a (omega arith)) in
+    let two : q / 256 / 128 % 2 ≡ bit_of (nat_lt 0 b) = omega (arith, top b (omega arith)) in
+    let three : q / 256 / 256 / 128 % 2 ≡ bit_of (nat_lt 0 c) = omega (arith, top c (omega arith)) in
+    let last : q / 256 / 256 / 256 / 128 % 2 ≡ bit_of (nat_lt 0 d) = omega (arith, top d (omega arith)) in
+    ap (λ (n : ℕ). n * 0x204081 % 2 ^ 32 / 2 ^ 28) (highest q ∙ (rw (one, two, three, last) refl))
+    ∙ gathered (nat_lt 0 a) (nat_lt 0 b) (nat_lt 0 c) (nat_lt 0 d)
 
 -- The byte of a status
 
@@ -248,3 +374,107 @@ goes_on s t {r = r} valid is apart = by valid.field
     by : IsUnstarted t.terms t.field ⊎ IsStarted t.terms t.field → is_over t.field.outcome ≡ false
     by (inl u) = absurd (apart (sym (asks_nothing s t.terms t.field u) ∙ is))
     by (inr v) = going_by s t.field.outcome t.terms t.field v.requests is apart
+
+-- Whether a choice is offered, by the byte of the request and by the tests for having no slot.
+
+-- A battle that asks for something continues, and the request settles what is offered.
+pub offers_asked : (side : Side) (s : State) (c : Choice) {r : Request} → IsState s → request_of side s.field ≡ r → (requests.Pass ≡ r → ⊥)
+    → offers s side c ≡ is_among c (offered_for r side s.field)
+unfolding offered
+offers_asked side s c valid asked apart = rw (goes_on side s valid asked apart) (ap (λ (r : Request). is_among c (offered_for r side s.field)) asked)
+
+-- A choice that isn't of the kind that is asked for
+
+pub pass_unasked : (side : Side) (s : State) (byte : ℕ) → byte ≡ request_byte (request_of side s.field) → (byte ≡ 0 → ⊥) → offers s side choices.Pass ≡ false
+unfolding offered
+pass_unasked side s byte is apart = by (is_over s.field.outcome) (request_of side s.field) is
+  where
+    by : (over : Bool) (r : Request) → byte ≡ request_byte r → is_among choices.Pass (if over then [] else offered_for r side s.field) ≡ false
+    by true r e = refl
+    by false requests.Pass e = absurd (apart e)
+    by false requests.Move e = no_pass_to_move side s.field
+    by false requests.Switch e = no_pass_to_switch side s.field
+
+pub move_unasked : (side : Side) (s : State) (slot byte : ℕ) → byte ≡ request_byte (request_of side s.field) → (byte ≡ 1 → ⊥)
+    → offers s side (choices.Move slot) ≡ false
+unfolding offered
+move_unasked side s slot byte is apart = by (is_over s.field.outcome) (request_of side s.field) is
+  where
+    by : (over : Bool) (r : Request) → byte ≡ request_byte r → is_among (choices.Move slot) (if over then [] else offered_for r side s.field) ≡ false
+    by true r e = refl
+    by false requests.Pass e = refl
+    by false requests.Move e = absurd (apart e)
+    by false requests.Switch e = no_move_to_switch side s.field slot
+
+pub switch_unasked : (side : Side) (s : State) (place byte : ℕ) → byte ≡ request_byte (request_of side s.field) → (byte ≡ 1 → ⊥) → (byte ≡ 2 → ⊥)
+    → offers s side (choices.Switch place) ≡ false
+unfolding offered
+switch_unasked side s place byte is one two = by (is_over s.field.outcome) (request_of side s.field) is
+  where
+    by : (over : Bool) (r : Request) → byte ≡ request_byte r → is_among (choices.Switch place) (if over then [] else offered_for r side s.field) ≡ false
+    by true r e = refl
+    by false requests.Pass e = refl
+    by false requests.Move e = absurd (one e)
+    by false requests.Switch e = absurd (two e)
+
+pub pass_asked : (side : Side) (s : State) (byte : ℕ) → byte ≡ request_byte (request_of side s.field) → byte ≡ 0 → offers s side choices.Pass ≡ not (is_over s.field.outcome)
+unfolding offered
+pass_asked side s byte is none = by (is_over s.field.outcome) (request_of side s.field) is
+  where
+    by : (over : Bool) (r : Request) → byte ≡ request_byte r → is_among choices.Pass (if over then [] else offered_for r side s.field) ≡ not over
+    by true r e = refl
+    by false requests.Pass e = refl
+    by false requests.Move e = absurd (let k = sym none ∙ e in cc)
+    by false requests.Switch e = absurd (let k = sym none ∙ e in cc)
+
+-- What leaves no slot, in the order of the tests
+
+regrouped : (commits sleeps bides traps held : Bool) → (commits || (sleeps || bides || traps || held)) ≡ (commits || bides || traps || sleeps || held)
+regrouped true sleeps bides traps held = refl
+regrouped false true bides traps held = sym (ap (λ (b : Bool). b || held) (or_yes (bides || traps)))
+regrouped false false bides traps held = sym (ap (λ (b : Bool). b || held) (or_no (bides || traps)))
+
+pub pick_tests : (s : Side) (f : Field) → (is_committed (underway_in s f) || has_no_slot_in s f)
+    ≡ (is_committed (underway_in s f) || is_some (underway_in s f).bide || is_some (underway_in s f).trapping
+    || sleeps_or_freezes (status_in s f) || is_some (underway_in (other s) f).trapping)
+pick_tests s f =
+    regrouped (is_committed (underway_in s f)) (sleeps_or_freezes (status_in s f)) (is_some (underway_in s f).bide) (is_some (underway_in s f).trapping)
+    (is_some (underway_in (other s) f).trapping)
+
+pub neither : (a b : Bool) → (a || b) ≡ false → (a ≡ false) × (b ≡ false)
+neither true b h = absurd (false≢true (sym h))
+neither false b h = (refl, h)
+
+pub unpicked_slot : (s : Side) (f : Field) (slot : ℕ) → (is_committed (underway_in s f) || has_no_slot_in s f) ≡ true → 1 ≤ slot
+    → is_among (choices.Move slot) (offered_for requests.Move s f) ≡ false
+unpicked_slot s f slot none low = by (is_committed (underway_in s f)) (has_no_slot_in s f) refl refl none
+  where
+    above : (slot == 0) ≡ false
+    above = other_number slot 0 (λ e. omega (arith, e))
+
+    by : (a b : Bool) → is_committed (underway_in s f) ≡ a → has_no_slot_in s f ≡ b → (a || b) ≡ true
+        → is_among (choices.Move slot) (offered_for requests.Move s f) ≡ false
+    by true b p q h = committed_slot s f slot p ∙ above
+    by false true p q h = no_slot s f slot p q ∙ above
+    by false false p q h = absurd (false≢true h)
+
+-- No digit of a usable slot is 1 exactly if no move is usable.
+pub none_usable : (s : Side) (f : Field) → length (member_in s f).moves ≤ 4 → (number_of_bits (false ∷ usable_of s f) == 0) ≡ (length (usable_list s f) == 0)
+none_usable s f few = by (eqb_tells (number_of_bits (false ∷ usable_of s f)) 0)
+  where
+    by : (((number_of_bits (false ∷ usable_of s f) == 0) ≡ true) × (number_of_bits (false ∷ usable_of s f) ≡ 0))
+        ⊎ (((number_of_bits (false ∷ usable_of s f) == 0) ≡ false) × (number_of_bits (false ∷ usable_of s f) ≢ 0))
+        → (number_of_bits (false ∷ usable_of s f) == 0) ≡ (length (usable_list s f) == 0)
+    by (inl h) = h.0 ∙ sym (nothing_usable s f few h.1)
+    by (inr h) = h.0 ∙ sym (something_usable s f few h.1)
+
+-- A switch, by whether the member is out already
+
+pub out_already : (s : Side) (f : Field) (place : ℕ) → 1 ≤ place → (place == (active_in s f).place) ≡ true → is_among (choices.Switch place) (switches_offered s f) ≡ false
+out_already s f place low out =
+    switch_offered s f place low ∙ ap (λ (b : Bool). is_living (member_at place (party s f)) && not b) out ∙ and_false (is_living (member_at place (party s f)))
+
+pub out_yet : (s : Side) (f : Field) (place : ℕ) → 1 ≤ place → (place == (active_in s f).place) ≡ false
+    → is_among (choices.Switch place) (switches_offered s f) ≡ is_living (member_at place (party s f))
+out_yet s f place low waits =
+    switch_offered s f place low ∙ ap (λ (b : Bool). is_living (member_at place (party s f)) && not b) waits ∙ and_true (is_living (member_at place (party s f)))

@@ -2,12 +2,11 @@
 //! masks needn't read the HP of all six (docs/SPEED.md, "What a side may choose").
 ghost use Rattle.std.specs.Prelude.{Bool, IfSome, List, length, max, slice_set, ◌*◌, ◌+◌, ◌-◌, ◌<◌, ◌≡◌, ◌≤◌};
 ghost use Rattle.gen1_layout.specs.Words.{Field, Reads, ReadsPacked, Setting, Within, active_in, is_living, member_at, party};
-ghost use Rattle.gen1_layout.specs.Within.{Stands};
+ghost use Rattle.gen1_layout.specs.Shows.{Stands};
 ghost use Rattle.gen1_machine.specs.Layout.{number_of_bits};
 ghost use Rattle.gen1_machine.specs.Rules.{bit_of};
 ghost use Rattle.gen1_machine.specs.State.{State};
-ghost use Rattle.gen1_offers.specs.Bench.{Follows, IsBench, IsInRange};
-ghost use Rattle.gen1_offers.specs.OfferedMask.{living_of, offered_mask, passing};
+ghost use Rattle.gen1_offers.specs.OfferedMask.{Follows, IsBench, IsInRange, living_of, offered_mask, passing};
 
 use crate::masks::mask;
 use gen1_layout::Packed;
@@ -128,7 +127,7 @@ fn beside(battle: &Packed, side: Side, out: u8) -> Bench
 
 // The digits, without that of a place.
 #[inline(always)]
-#[tactic(auto, using(crate::proofs::Digits::place_out))]
+#[tactic(auto, using(crate::proofs::MaskDigits::place_out))]
 fn without(digits: u32, place: u8) -> u32
     requires low { 1 ≤ place }
     requires high { place ≤ 6 }

@@ -2,7 +2,7 @@
 //! (docs/MECHANICS.md, "Offered choices").
 ghost use Rattle.std.specs.Prelude.{nat_lt, not, ◌&&◌, ◌==◌, ◌||◌, ◌≡◌, ◌≤◌};
 ghost use Rattle.gen1_layout.specs.Words.{Field, Reads, Setting, Within, active_in, conditions_in, status_in, underway_in};
-ghost use Rattle.gen1_layout.specs.Within.{Stands};
+ghost use Rattle.gen1_layout.specs.Shows.{Stands};
 ghost use Rattle.gen1_machine.specs.Layout.{status_byte};
 ghost use Rattle.gen1_machine.specs.OfferedChoices.{bars_slot, has_no_slot_in, is_committed, offered_for, switches_offered};
 ghost use Rattle.gen1_machine.specs.State.{State};
@@ -141,7 +141,7 @@ fn has_no_pick(battle: &Packed, side: Side, status: u8) -> bool
 
 // A switch, instead of a move.
 #[inline(always)]
-#[tactic(auto, using(crate::proofs::OneChoice::switches_out))]
+#[tactic(auto, using(crate::proofs::OfferedSet::switches_out))]
 fn may_switch_out(battle: &Packed, side: Side, place: u8) -> bool
     requires low { 1 ≤ place }
     requires high { place ≤ 6 }
@@ -155,7 +155,7 @@ fn may_switch_out(battle: &Packed, side: Side, place: u8) -> bool
 }
 
 #[inline(always)]
-#[tactic(auto, using(crate::proofs::TestedChoice::out_already, crate::proofs::TestedChoice::out_yet))]
+#[tactic(auto, using(crate::proofs::MaskDigits::out_already, crate::proofs::MaskDigits::out_yet))]
 fn may_switch(battle: &Packed, side: Side, place: u8) -> bool
     requires low { 1 ≤ place }
     requires high { place ≤ 6 }

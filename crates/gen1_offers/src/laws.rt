@@ -9,7 +9,7 @@ pub fn offers_the_set()
 
 /// The bytes of the offered choices of a valid state rise, each above the one before (docs/MECHANICS.md, "Offered
 /// choices").
-#[tactic(auto, using(crate::proofs::RisingOffers::offers_rising))]
+#[tactic(auto, using(crate::proofs::OfferedSet::offers_rising))]
 pub fn offers_rising()
     ensures { OffersRising }
 {}

@@ -2,13 +2,12 @@
 //! "Offered choices"). Digits are gathered from the highest down, and each is one comparison with memory.
 ghost use Rattle.std.specs.Prelude.{IfSome, false, length, ◌<◌, ◌≡◌, ◌≤◌, ◌∷◌};
 ghost use Rattle.gen1_layout.specs.Words.{Field, Packs, Setting, Within, member_in, request_of, status_in};
-ghost use Rattle.gen1_layout.specs.Within.{Stands};
+ghost use Rattle.gen1_layout.specs.Shows.{Stands};
 ghost use Rattle.gen1_machine.specs.Layout.{member_block, number_of_bits, request_byte, status_byte};
 ghost use Rattle.gen1_machine.specs.OfferedChoices.{has_no_slot_in, moves_offered, offered_for};
 ghost use Rattle.gen1_machine.specs.State.{State};
 ghost use Rattle.gen1_machine.specs.declared.terms.Request.TheVariants as requests;
-ghost use Rattle.gen1_offers.specs.Bench.{IsBench, IsInRange};
-ghost use Rattle.gen1_offers.specs.OfferedMask.{AreDigitsOf, digits_of, mask_of, moves_and_pass, offered_mask, usable_of};
+ghost use Rattle.gen1_offers.specs.OfferedMask.{IsBench, IsInRange, AreDigitsOf, digits_of, mask_of, moves_and_pass, offered_mask, usable_of};
 
 use crate::bench::{Bench, bench_or};
 use crate::offered_choices::is_committed;

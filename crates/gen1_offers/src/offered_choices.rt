@@ -5,7 +5,7 @@ ghost use Rattle.gen1_layout.specs.Words.{Field, Reads, conditions_in, is_living
 ghost use Rattle.gen1_machine.specs.State.{State, is_over};
 ghost use Rattle.gen1_machine.specs.OfferedChoices.{bars_slot, has_no_slot_in, is_committed, moves_offered, offered, offered_for, switches_offered, usable_from};
 ghost use Rattle.gen1_machine.specs.declared.terms.Request.TheVariants as requests;
-ghost use Rattle.gen1_layout.specs.Within.{Setting, Stands, Within};
+ghost use Rattle.gen1_layout.specs.Shows.{Setting, Stands, Within};
 
 use arrayvec::ArrayVec;
 use bitflags::Flags;
@@ -67,7 +67,7 @@ fn offered_to_move(battle: &Packed, side: Side) -> Choices
 }
 
 // The moves, without the switches.
-#[tactic(auto, using(crate::proofs::Collecting::no_struggle))]
+#[tactic(auto, using(crate::proofs::OfferedSet::no_struggle))]
 fn moves_offered(battle: &Packed, side: Side) -> Choices
     ensures few { array_vec_len result ≤ 4 }
     ensures stands { Reads battle.now result.items (moves_offered side) }

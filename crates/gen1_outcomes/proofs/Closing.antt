@@ -17,9 +17,9 @@ use Rattle.gen1_machine.specs.Turn.{do_part, do_parts, end_turn, is_cut}
 use Rattle.gen1_machine.specs.Layout.{bytes_of}
 use Rattle.gen1_machine.specs.State.{Field, State}
 use Rattle.gen1_layout.specs.Parts.{Parts, bytes_of_sides, joined, part, parts_of, with_sides}
-use Rattle.gen1_layout.specs.Within.{Setting, Within, blocks_of, state_in}
-use Rattle.gen1_layout.proofs.Packing.{parts-bytes_of}
-use Rattle.gen1_layout.proofs.Rewriting.{refill-same}
+use Rattle.gen1_layout.specs.Shows.{Setting, Within, blocks_of, state_in}
+use Rattle.gen1_layout.proofs.WaysBack.{parts-bytes_of}
+use Rattle.gen1_layout.proofs.Views.{refill-same}
 use Rattle.gen1_hits.specs.declared.known.Known.{Known}
 use Rattle.gen1_hits.specs.Knowing.{ShowsOver, knowing, with_broke}
 use Rattle.gen1_turn.specs.TurnParts.{PartLeaves, suffering}

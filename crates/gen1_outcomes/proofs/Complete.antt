@@ -5,10 +5,8 @@ use Rattle.std.proofs.lemmas.List.{get_or_default}
 use Rattle.gen1_rolls.specs.declared.look.ByteTest.{ByteTest}
 use Rattle.gen1_rolls.specs.declared.look.Look.{Look}
 use Rattle.gen1_rolls.specs.declared.look.Look.TheVariants.{Below, Factor, Remainder, RotatedBelow}
-use Rattle.gen1_rolls.specs.Looks.{passes, sees}
-use Rattle.gen1_rolls.specs.Streams.{IsStream, Stream, byte_at, first}
-use Rattle.gen1_rolls.proofs.First.{first-exists, first-finds}
-use Rattle.gen1_rolls.proofs.Period.{byte-small}
+use Rattle.gen1_rolls.specs.Streams.{passes, sees, IsStream, Stream, byte_at, first}
+use Rattle.gen1_rolls.proofs.First.{first-exists, first-finds, byte-small}
 use Rattle.gen1_outcomes.specs.declared.byte_set.ByteSet.{ByteSet}
 use Rattle.gen1_outcomes.specs.declared.log.Entry.{Entry}
 use Rattle.gen1_outcomes.specs.declared.log.Entry.TheVariants.{Draw, Found, Missed}
@@ -17,18 +15,17 @@ use Rattle.gen1_outcomes.specs.declared.nodes.Asked.TheVariants.{First, Next, Un
 use Rattle.gen1_outcomes.specs.declared.nodes.Node.{Node}
 use Rattle.gen1_outcomes.specs.declared.nodes.Nodes.{Nodes}
 use Rattle.gen1_outcomes.specs.declared.options.OutcomeOptions.{OutcomeOptions}
-use Rattle.gen1_outcomes.specs.Bytes.{has}
-use Rattle.gen1_outcomes.specs.Classes.{alike_in, told}
+use Rattle.gen1_outcomes.specs.Nodes.{AllDone, AreBytes, AreLeft, AreOn, AreToCome, IsSettled, LeadsOn, Notes, Passes, asked_at, script_of}
+use Rattle.gen1_outcomes.specs.Bytes.{has, alike_in, told}
 use Rattle.gen1_outcomes.specs.Complete.{GoesBy, IsExact, IsToCome, WaitsAfter, byte_for, byte_or_zero, place_asked, place_before, IsListed, ListsEvery, Extends, FollowsFrom, IsHandled, ArrivesAt, Lists, ListsFrom, ListsHandled, LosesNone, Offers, OffersTwo}
 use Rattle.gen1_outcomes.specs.Logs.{AllFit, Fits, NotesAll, NotesEntry, place_after, place_at, place_past, Agrees, IsLogged}
-use Rattle.gen1_outcomes.specs.Nodes.{AllDone, AreBytes, AreLeft, AreOn, AreToCome, IsSettled, LeadsOn, Notes, Passes, asked_at}
 use Rattle.gen1_outcomes.proofs.Logs.{entry_keeps}
 use Rattle.gen1_outcomes.proofs.Shifts.{NoneMissed, arrives_by, dropped, dropped-is, follows_arrived}
 use Rattle.gen1_outcomes.proofs.Walking.{at, some_node}
 use Rattle.gen1_machine.specs.declared.choice.Choice.{Choice}
 use Rattle.gen1_machine.specs.State.{State}
 use Rattle.gen1_layout.specs.Parts.{Parts, joined}
-use Rattle.gen1_layout.specs.Within.{Stands}
+use Rattle.gen1_layout.specs.Shows.{Stands}
 use Rattle.gen1_engine.specs.Update.{AreOffered}
 use Rattle.gen1_outcomes.specs.declared.fault.OutcomesFault.{OutcomesFault}
 use Rattle.gen1_outcomes.specs.declared.merging.Tally.{Tally}
@@ -43,7 +40,6 @@ use Rattle.gen1_outcomes.specs.Shares.{Adds}
 use Rattle.gen1_outcomes.specs.declared.beginning.Left.{Left}
 use Rattle.gen1_outcomes.specs.declared.middles.Middles.{Middles}
 use Rattle.gen1_outcomes.specs.declared.script.Script.{Script}
-use Rattle.gen1_outcomes.specs.Script.{script_of}
 use Rattle.gen1_outcomes.proofs.Lists.{same_or}
 
 three : (m n : ℕ) → (m < n) ⊎ (m ≡ n) ⊎ (n < m)

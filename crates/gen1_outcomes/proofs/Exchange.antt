@@ -1,13 +1,14 @@
 -- The roll of a damage and the hit test of its action exchange: the fields that the update leads to have equal probabilities.
-use Rattle.std.proofs.Common.{Bool, IsTrue, None, Option, Some, ap, arith, false, if◌then◌else◌, inl, inr, nat_lt, refl, subst, suc, sym, true, zero, ℕ, ◌*◌, ◌+◌, ◌/◌, ◌<◌, ◌∙◌, ◌≡◌, ◌≤◌, ◌⊎◌, nat_le}
+use Rattle.std.proofs.Common.{◌≡◌, inl, inr, ℕ, ◌*◌, ◌+◌, ◌==◌, Bool, true, false, Option, None, Some, ap, arith, if◌then◌else◌, refl, sym, ◌∙◌, IsTrue, nat_lt, subst, suc, zero, ◌/◌, ◌<◌, ◌≤◌, ◌⊎◌, nat_le}
+use Rattle.gen1_rolls.specs.Streams.{byte_at, first, span, Drawn, IsStream, Stream}
+use Rattle.gen1_machine.specs.State.{Field, with_last_damage, Terms}
+use Rattle.gen1_machine.specs.Progress.{Progress, choose, draw, draw_until, given, has_missed, on_action, on_conditions, on_field, set_last_damage, set_missed, stay, unless, unless_stopped, ◌▸◌, Action, Phase}
+use Rattle.gen1_machine.specs.Laws.{leads_to, sum_over, Done, Draw, IsDealt, IsShare, Search, Tree, count_of, sum_below, drawing_from}
+use Rattle.gen1_machine.proofs.Shares.{below-same, below-times, if_so, all-count, below-plus, counted, over-times, share-one, shares_are_probabilities}
+use Rattle.gen1_machine.proofs.EqualShares.{shares_depend_on_fields}
 use Rattle.std.proofs.lemmas.Bool.{false≢true}
 use Rattle.std.proofs.Math.Nat.{mul-div_cancel_left, mul_comm, eq_of_mul-eq-mul_left}
-use Rattle.gen1_machine.specs.State.{Field, with_last_damage, Terms}
-use Rattle.gen1_machine.specs.Laws.{count_of, sum_below, sum_over, Draw, IsDealt, IsShare, Search, Tree, drawing_from, leads_to, Done}
-use Rattle.gen1_machine.proofs.Shares.{all-count, below-plus, below-same, counted, if_so, over-times, share-one, shares_are_probabilities}
-use Rattle.gen1_outcomes.proofs.Told.{share-times}
 use Rattle.std.proofs.lemmas.Bool.Decides.{nat_tests}
-use Rattle.gen1_rolls.specs.Streams.{byte_at, first, span, IsStream, Stream}
 use Rattle.gen1_rolls.proofs.First.{first-exists}
 use Rattle.gen1_layout.proofs.Chain.{choose-false, choose-true, then-goes}
 use Rattle.gen1_layout.specs.Words.{move_at}
@@ -18,20 +19,113 @@ use Rattle.gen1_machine.specs.Conditions.{without_trapping}
 use Rattle.gen1_machine.specs.Damage.{is_factor, rotated_right_1, times_factor, varied_by, vary}
 use Rattle.gen1_machine.specs.HitTest.{base_of, hit_or_miss, hit_test, hits_below, miss, scaled_in, set_tested, settled_hit_in, test_by}
 use Rattle.gen1_machine.specs.Moves.{Move}
-use Rattle.gen1_machine.specs.Progress.{choose, draw, draw_until, given, has_missed, on_action, on_conditions, on_field, set_last_damage, set_missed, stay, unless, unless_stopped, ◌▸◌, Action, Phase, Progress}
 use Rattle.gen1_machine.specs.Ruling.{Ruling, ruling_of}
 use Rattle.gen1_machine.specs.Step.{close_update}
 use Rattle.gen1_machine.specs.Turn.{end_turn}
-use Rattle.gen1_machine.proofs.EqualShares.{shares_depend_on_fields}
 use Rattle.gen1_machine.proofs.Trees.{after-tree, choose-tree, searched, stay-tree, then-tree, tree_rules, HasTree, RulingHasTrees}
 use Rattle.gen1_machine.proofs.TreeWalk.{close_update-tree, hit_or_miss-tree, keep_accuracy-tree, late_effect-tree, resume-tree, ruling-tree, strike-tree, vary-tree}
 use Rattle.gen1_turn.specs.declared.action.two_parts.Roll.{Roll}
-use Rattle.gen1_turn.specs.ActionSteps.{late_part}
+use Rattle.gen1_turn.specs.Action.{late_part}
 use Rattle.gen1_turn.specs.TurnParts.{suffering}
 use Rattle.gen1_turn.specs.TwoParts.{parts_from_roll, IsRolling}
 use Rattle.gen1_outcomes.specs.Exchanged.{after_test, roll_if_hit, tested_first}
 use Rattle.gen1_outcomes.specs.Beginning.{from_damage}
 use Rattle.gen1_outcomes.proofs.Shifts.{suffering-tree}
+
+-- Trees that lead to fields of which tests say the same have equal shares for them.
+--
+-- Each field that a tree leads to is changed to one that says by its turn alone whether the test was passed. What the trees lead to then is
+-- the same on each stream.
+
+-- A field that says whether a test was passed, and is else this one.
+abbrev marked : Field → Bool → Field
+marked f b = record f { turn = if b then 1 else 0 }
+
+abbrev is_marked : Field → Bool
+is_marked f = f.turn == 1
+
+-- A tree whose fields say it.
+unfoldable all_marked : Field → (Field → Bool) → Tree → Tree
+all_marked f passes (Done left) = Done (record left { field = marked f (passes left.field) })
+all_marked f passes (Draw next) = Draw (λ b. all_marked f passes (next b))
+all_marked f passes (Search test found none) = Search test (λ b. all_marked f passes (found b)) (all_marked f passes none)
+
+marked-told : (f : Field) (b : Bool) → is_marked (marked f b) ≡ b
+marked-told f true = refl
+marked-told f false = refl
+
+pub dealt-map : {test : ℕ → Bool} {P Q : ℕ → ℕ → ℕ → Type 0} {whole n : ℕ} → ((b w i : ℕ) → P b w i → Q b w i) → IsDealt test P whole n → IsDealt test Q whole n
+dealt-map f d = record {
+  each = d.each;
+  part = d.part;
+  equal = d.equal;
+  parts = λ b lt is. f b d.each (d.part b) (d.parts b lt is);
+  sum = d.sum;
+}
+
+share-marked : (f : Field) (passes : Field → Bool) (t : Tree) (whole n : ℕ) → IsShare t passes whole n → IsShare (all_marked f passes t) is_marked whole n
+unfolding IsShare all_marked
+share-marked f passes (Done left) whole n h = h ∙ ap (λ (b : Bool). if_so b whole) (sym (marked-told f (passes left.field)))
+share-marked f passes (Draw next) whole n h = dealt-map (λ b. share-marked f passes (next b)) h
+share-marked f passes (Search test found none) whole n (inl (some, h)) = inl (some, dealt-map (λ b. share-marked f passes (found b)) h)
+share-marked f passes (Search test found none) whole n (inr (none_passes, h)) = inr (none_passes, share-marked f passes none whole n h)
+
+leads-marked : (f : Field) (passes : Field → Bool) (t : Tree) (s : Stream) (n : ℕ) → (leads_to (all_marked f passes t) s n).field ≡ marked f (passes (leads_to t s n).field)
+unfolding leads_to all_marked
+leads-marked f passes (Done left) s n = refl
+leads-marked f passes (Draw next) s n = leads-marked f passes (next (byte_at s n)) s (n + 1)
+leads-marked f passes (Search test found none) s n =
+    by (first s n test) (λ m. leads-marked f passes (found (byte_at s m)) s (m + 1)) (leads-marked f passes none s (n + span s))
+  where
+    by : (o : Option ℕ)
+        → ((m : ℕ) → (leads_to (all_marked f passes (found (byte_at s m))) s (m + 1)).field ≡ marked f (passes (leads_to (found (byte_at s m)) s (m + 1)).field))
+        → (leads_to (all_marked f passes none) s (n + span s)).field ≡ marked f (passes (leads_to none s (n + span s)).field)
+        → (elim o as (λ _. Progress) [ Some m ↦ leads_to (all_marked f passes (found (byte_at s m))) s (m + 1) | None ↦ leads_to (all_marked f passes none) s (n + span s) ]).field
+        ≡ marked f (passes (elim o as (λ _. Progress) [ Some m ↦ leads_to (found (byte_at s m)) s (m + 1) | None ↦ leads_to none s (n + span s) ]).field)
+    by (Some m) some none = some m
+    by None some none = none
+
+-- The trees may have a test each.
+pub shares_by_tests : (t u : Tree) (passes test : Field → Bool) (whole share total part : ℕ) → ((s : Stream) → IsStream s → passes (leads_to t s 0).field ≡ test (leads_to u s 0).field)
+    → IsShare t passes whole share → IsShare u test total part → share * total ≡ part * whole
+shares_by_tests t u passes test whole share total part same h k =
+    let f = (leads_to t (Drawn (λ i. 0) 1) 0).field in
+    shares_depend_on_fields (all_marked f passes t) (all_marked f test u)
+    (λ s is. leads-marked f passes t s 0 ∙ ap (marked f) (same s is) ∙ sym (leads-marked f test u s 0))
+    is_marked whole share total part (share-marked f passes t whole share h) (share-marked f test u total part k)
+
+pub shares_by_test : (t u : Tree) (passes : Field → Bool) (whole share total part : ℕ) → ((s : Stream) → IsStream s → passes (leads_to t s 0).field ≡ passes (leads_to u s 0).field)
+    → IsShare t passes whole share → IsShare u passes total part → share * total ≡ part * whole
+shares_by_test t u passes = shares_by_tests t u passes passes
+
+-- A share of a multiple.
+pub over-scaled : (test : ℕ → Bool) (f : ℕ → ℕ) (k : ℕ) → sum_over test (λ b. f b * k) ≡ sum_over test f * k
+over-scaled test f k = below-same 256 _ _ (λ b lt. by (test b) (f b)) ∙ below-times 256 (λ b. if_so (test b) (f b)) k
+  where
+    by : (t : Bool) (x : ℕ) → if_so t (x * k) ≡ if_so t x * k
+    by true x = refl
+    by false x = omega arith
+
+dealt-times : {test : ℕ → Bool} {P : ℕ → ℕ → ℕ → Type 0} {whole n : ℕ} (k : ℕ) → ((b w i : ℕ) → P b w i → P b (w * k) (i * k))
+    → IsDealt test P whole n → IsDealt test P (whole * k) (n * k)
+dealt-times {test} {P} {whole} {n} k times d = record {
+  each = d.each * k;
+  part = λ b. d.part b * k;
+  equal = omega (arith, ap (λ (x : ℕ). x * k) d.equal);
+  parts = λ b lt is. times b d.each (d.part b) (d.parts b lt is);
+  sum = over-scaled test d.part k ∙ ap (λ (x : ℕ). x * k) d.sum;
+}
+
+pub share-times : (t : Tree) (passes : Field → Bool) (k whole n : ℕ) → IsShare t passes whole n → IsShare t passes (whole * k) (n * k)
+unfolding IsShare
+share-times (Done left) passes k whole n h = ap (λ (x : ℕ). x * k) h ∙ by (passes left.field)
+  where
+    by : (b : Bool) → if_so b whole * k ≡ if_so b (whole * k)
+    by true = refl
+    by false = omega arith
+share-times (Draw next) passes k whole n h = dealt-times k (λ b. share-times (next b) passes k) h
+share-times (Search test found none) passes k whole n (inl (some, h)) = inl (some, dealt-times k (λ b. share-times (found b) passes k) h)
+share-times (Search test found none) passes k whole n (inr (none_passes, h)) = inr (none_passes, share-times none passes k whole n h)
 
 -- A search, and a test whose miss forgets what was found, in both orders: both trees have equal shares.
 

@@ -4,7 +4,7 @@ use Rattle.std.specs.List.{range_with_len, sum_by}
 use Rattle.std.proofs.lemmas.Bool.Decides.{nat_tests}
 use Rattle.std.proofs.lemmas.List.Sums.{sum_by-cons}
 use Rattle.std.proofs.lemmas.Nat.Bits.{bit_at-lt}
-use Rattle.gen1_rolls.specs.Looks.{passes}
+use Rattle.gen1_rolls.specs.Streams.{passes}
 use Rattle.gen1_machine.specs.Laws.{count_of, sum_below}
 use Rattle.gen1_machine.proofs.Shares.{below-plus, below-same, if_so}
 use Rattle.gen1_outcomes.specs.declared.byte_set.ByteSet.{ByteSet}
@@ -12,9 +12,8 @@ use Rattle.gen1_outcomes.specs.declared.nodes.Asked.{Asked}
 use Rattle.gen1_outcomes.specs.declared.nodes.Asked.TheVariants.{First, Next, Unknown}
 use Rattle.gen1_outcomes.specs.declared.nodes.Node.{Node}
 use Rattle.gen1_outcomes.specs.declared.nodes.Nodes.{Nodes}
-use Rattle.gen1_outcomes.specs.Bytes.{has, size}
-use Rattle.gen1_outcomes.specs.Classes.{alike_in, told}
 use Rattle.gen1_outcomes.specs.Nodes.{GoesOn}
+use Rattle.gen1_outcomes.specs.Bytes.{has, size, alike_in, told}
 use Rattle.gen1_outcomes.proofs.Complete.{CanAsk}
 use Rattle.gen1_outcomes.proofs.Walking.{at, some_node}
 

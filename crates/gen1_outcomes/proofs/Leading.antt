@@ -19,8 +19,7 @@ use Rattle.gen1_outcomes.specs.Following.{AreOf, Walk}
 use Rattle.gen1_outcomes.specs.Listing.{untold}
 use Rattle.gen1_outcomes.specs.Logs.{Agrees, place_at}
 use Rattle.gen1_outcomes.specs.Middles.{IsReached, ReachesFrom}
-use Rattle.gen1_outcomes.specs.Nodes.{IsChance}
-use Rattle.gen1_outcomes.specs.Script.{script_of, scripted}
+use Rattle.gen1_outcomes.specs.Nodes.{IsChance, script_of, scripted}
 use Rattle.gen1_outcomes.specs.Shares.{CountsEach}
 use Rattle.gen1_outcomes.specs.Weights.{AddsPart, AreEqual, Fraction, HasPart, HasRest, IsTreeFrom, are_of, of_chance, plus, share_of, times}
 use Rattle.gen1_outcomes.proofs.Complete.{AreKnown, IsGoingFrom, IsPastFrom, lists_as, past_as, past_way}

@@ -4,8 +4,7 @@
 -- gone through at the deeper levels, and of those that are left nothing is known yet. Each byte has a part of the level's whole.
 use Rattle.std.proofs.Common.{◌≡◌, ◌⊎◌, inl, inr, ℕ, zero, suc, ◌*◌, ◌+◌, ◌<◌, ◌≤◌, ◌&&◌, Bool, IsTrue, true, false, List, [], Option, None, Some, ap, ap₂, arith, cond, get_or, if◌then◌else◌, length, refl, subst, sym, ◌∙◌}
 use Rattle.std.proofs.lemmas.List.{get_or_default}
-use Rattle.gen1_rolls.specs.Looks.{passes}
-use Rattle.gen1_rolls.specs.Streams.{IsStream, Stream, byte_at, span}
+use Rattle.gen1_rolls.specs.Streams.{passes, IsStream, Stream, byte_at, span}
 use Rattle.gen1_machine.specs.Laws.{count_of, leads_to, sum_over, Done, Draw, IsDealt, IsShare, Search, Tree}
 use Rattle.gen1_machine.specs.Progress.{Progress}
 use Rattle.gen1_machine.specs.Step.{opened}
@@ -15,13 +14,13 @@ use Rattle.gen1_outcomes.specs.declared.nodes.Asked.{Asked}
 use Rattle.gen1_outcomes.specs.declared.nodes.Asked.TheVariants.{First, Next, Unknown}
 use Rattle.gen1_outcomes.specs.declared.nodes.Node.{Node}
 use Rattle.gen1_outcomes.specs.declared.nodes.Nodes.{Nodes}
+use Rattle.gen1_outcomes.specs.Nodes.{AreOn, GoesOn, IsDone, LeadsOn, asked_at}
 use Rattle.gen1_outcomes.specs.Bytes.{has}
 use Rattle.gen1_outcomes.specs.Complete.{byte_for, byte_or_zero, place_asked, place_before}
 use Rattle.gen1_outcomes.specs.Logs.{place_past}
-use Rattle.gen1_outcomes.specs.Nodes.{AreOn, GoesOn, IsDone, LeadsOn, asked_at}
 use Rattle.gen1_outcomes.proofs.Complete.{CanAsk, asked_passes, byte_same, bytes_small, on_same, place_same}
 use Rattle.gen1_outcomes.proofs.Fair.{IsFair, goes_rest, goes_was, is_on, may_of, node_at, off_left}
-use Rattle.gen1_outcomes.proofs.Told.{over-scaled, share-times}
+use Rattle.gen1_outcomes.proofs.Exchange.{over-scaled, share-times}
 use Rattle.gen1_outcomes.proofs.Walking.{at, some_node}
 
 -- Sums over the bytes that a draw may have.

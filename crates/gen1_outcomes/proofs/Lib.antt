@@ -12,16 +12,13 @@ pub mod Offered
 pub mod Paths
 pub mod PlayedLists
 pub mod Positions
-pub mod Repeated
 pub mod Rolling
 pub mod Runs
 pub mod Sets
 pub mod Shares
 pub mod Shifts
 pub mod Stages
-pub mod Swapping
 pub mod Table
-pub mod Told
 pub mod Walking
 pub mod Walks
 pub mod Weighing

@@ -9,7 +9,7 @@ use Rattle.gen1_outcomes.specs.declared.fault.OutcomesFault.{OutcomesFault}
 use Rattle.gen1_outcomes.specs.declared.options.OutcomeOptions.{OutcomeOptions}
 use Rattle.gen1_outcomes.specs.declared.outcomes.Outcomes.{Outcomes}
 use Rattle.gen1_outcomes.specs.declared.successor.Successor.{Successor}
-use Rattle.gen1_layout.specs.Within.{Stands}
+use Rattle.gen1_layout.specs.Shows.{Stands}
 use Rattle.gen1_engine.specs.Update.{AreOffered}
 use Rattle.gen1_outcomes.specs.Following.{IsBegun, Walk}
 use Rattle.gen1_outcomes.specs.Merging.{IsFull}

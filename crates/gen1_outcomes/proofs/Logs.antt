@@ -5,17 +5,15 @@ use Rattle.gen1_rolls.specs.declared.look.ByteTest.{ByteTest}
 use Rattle.gen1_rolls.specs.declared.look.Look.{Look}
 use Rattle.gen1_rolls.specs.declared.look.Look.TheVariants.{Remainder}
 use Rattle.gen1_rolls.specs.Draws.{Finds, IsNext, Misses, Since, StandsIn, StepsTo}
-use Rattle.gen1_rolls.specs.Looks.{passes, sees}
+use Rattle.gen1_rolls.specs.Streams.{passes, sees, IsStream, Stream, byte_at, first, span}
 use Rattle.gen1_rolls.specs.Steady.{StandsAt, steady, stream_of}
-use Rattle.gen1_rolls.specs.Streams.{IsStream, Stream, byte_at, first, span}
-use Rattle.gen1_rolls.proofs.Period.{byte-small}
+use Rattle.gen1_rolls.proofs.First.{byte-small}
 use Rattle.gen1_rolls.proofs.Standing.{stands_at_itself}
 use Rattle.gen1_machine.specs.declared.choice.Choice.{Choice}
 use Rattle.gen1_machine.specs.declared.terms.Request.TheVariants.{Move}
 use Rattle.gen1_machine.specs.State.{State}
 use Rattle.gen1_layout.specs.Parts.{Parts}
-use Rattle.gen1_layout.specs.Shows.{Telling}
-use Rattle.gen1_layout.specs.Within.{setting_of}
+use Rattle.gen1_layout.specs.Shows.{Telling, setting_of}
 use Rattle.gen1_switching.specs.Updates.{Steps, UpdatedDrawing}
 use Rattle.gen1_outcomes.specs.declared.byte_set.ByteSet.{ByteSet}
 use Rattle.gen1_outcomes.specs.declared.explorer.Explorer.{Explorer}
@@ -28,8 +26,7 @@ use Rattle.gen1_outcomes.specs.declared.script.Script.{Script}
 use Rattle.gen1_outcomes.specs.Following.{Leads, turn_on}
 use Rattle.gen1_outcomes.specs.Logs.{explored}
 use Rattle.gen1_outcomes.specs.Logs.{AllFit, Draws, FindsAlike, Fits, IsLogged, NotesAll, NotesEntry, place_after, place_at, place_past}
-use Rattle.gen1_outcomes.specs.Nodes.{Notes, Passes}
-use Rattle.gen1_outcomes.specs.Script.{scripted}
+use Rattle.gen1_outcomes.specs.Nodes.{Notes, Passes, scripted}
 
 pub place_more : (es : List Entry) (e : Entry) (s : Stream) (n : ℕ) → place_at (es ++ e ∷ []) s n ≡ place_after e s (place_at es s n)
 place_more [] e s n = refl

@@ -19,7 +19,7 @@ use Rattle.gen1_outcomes.specs.declared.nodes.Nodes.{Nodes}
 use Rattle.gen1_outcomes.specs.declared.script.Script.{Script}
 use Rattle.gen1_outcomes.specs.Following.{CanFollow, Leads}
 use Rattle.gen1_outcomes.specs.Logs.{Agrees, IsLogged, NotesAll}
-use Rattle.gen1_outcomes.specs.Script.{scripted}
+use Rattle.gen1_outcomes.specs.Nodes.{scripted}
 
 pub accepted_offered : (s : State) (one two : Choice) (old new : Parts) (result : BattleResult) → Answers s one two old new (Ok result) → AreOffered s one two
 unfolding step step_by answered

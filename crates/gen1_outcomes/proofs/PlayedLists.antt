@@ -18,9 +18,8 @@ use Rattle.gen1_outcomes.specs.declared.beginning.Left.{Left}
 use Rattle.gen1_outcomes.specs.declared.log.Entry.{Entry}
 use Rattle.gen1_outcomes.specs.Logs.{Agrees, place_at, place_past}
 use Rattle.gen1_outcomes.specs.Middles.{IsAt, IsPlayedIn, PlaysHit, PlaysMiss, IsReached, PlaysOn}
-use Rattle.gen1_outcomes.proofs.Exchange.{large-damage, limit_at, one_of, rolls, test-is, tested_by, exchanged_share, tested_first-tree}
-use Rattle.gen1_outcomes.proofs.Swapping.{none_each, swapped, swapped-first, swapped-found, swapped-is, swapped_agrees, unasked_agrees}
-use Rattle.gen1_outcomes.proofs.Shifts.{NoneMissed, agrees_first, agrees_then, dropped, dropped-is, follows_from}
+use Rattle.gen1_outcomes.proofs.Exchange.{large-damage, limit_at, one_of, rolls, test-is, tested_by, exchanged_share, tested_first-tree, shares_by_tests}
+use Rattle.gen1_outcomes.proofs.Shifts.{none_each, swapped, swapped-first, swapped-found, swapped-is, swapped_agrees, unasked_agrees, NoneMissed, agrees_first, agrees_then, dropped, dropped-is, follows_from}
 use Rattle.gen1_outcomes.proofs.Stages.{at_on, bytes_test, rest_at, tree_tells}
 use Rattle.gen1_layout.specs.Parts.{Parts, joined}
 use Rattle.gen1_machine.specs.Ruling.{ruling_of}
@@ -37,14 +36,12 @@ use Rattle.gen1_outcomes.specs.Complete.{FollowsFrom, IsExact, Lists, ListsFrom,
 use Rattle.gen1_outcomes.specs.Exchanged.{tested_first}
 use Rattle.gen1_outcomes.specs.Following.{Walk}
 use Rattle.gen1_outcomes.specs.Listing.{KeepsFirst}
-use Rattle.gen1_outcomes.specs.Nodes.{AllDone}
-use Rattle.gen1_outcomes.specs.Script.{script_of}
+use Rattle.gen1_outcomes.specs.Nodes.{AllDone, script_of}
 use Rattle.gen1_outcomes.specs.Shares.{Adds}
 use Rattle.gen1_outcomes.specs.Weights.{AddsPart, AreEqual, Fraction, HasPart, HasRest, IsTreeFrom, are_of, of_chance, plus, share_of, times}
 use Rattle.gen1_outcomes.proofs.Complete.{IsGoing, IsPast, extends_more, gone, lists_added, lists_as, none_missed, past_as, past_way}
 use Rattle.gen1_outcomes.proofs.Fractions.{equal-refl, equal-trans, plus-equal, times-equal}
 use Rattle.gen1_outcomes.proofs.Positions.{at_reached}
-use Rattle.gen1_outcomes.proofs.Told.{shares_by_tests}
 use Rattle.gen1_outcomes.proofs.Weights.{AddsPartOf, IsTreePlayed, part_as, part_positive, same_told, tells_of}
 use Rattle.gen1_outcomes.specs.declared.beginning.Left.TheVariants as lefts
 

@@ -5,7 +5,7 @@ use Rattle.gen1_machine.specs.Ruling.{ruling_of}
 use Rattle.gen1_machine.specs.State.{State, Terms}
 use Rattle.gen1_machine.specs.declared.choice.Choice.{Choice}
 use Rattle.gen1_layout.specs.Parts.{Parts, parts_of}
-use Rattle.gen1_layout.specs.Within.{Stands, setting_of}
+use Rattle.gen1_layout.specs.Shows.{Stands, setting_of}
 use Rattle.gen1_rolls.specs.Steady.{stream_of}
 use Rattle.gen1_rolls.specs.Streams.{Drawn, IsStream, Stream}
 use Rattle.gen1_machine.specs.Laws.{drawing_from}
@@ -23,11 +23,10 @@ use Rattle.gen1_outcomes.specs.Following.{Walk}
 use Rattle.gen1_outcomes.specs.Listing.{FollowsBy, IsPart, log_of, width_of}
 use Rattle.gen1_outcomes.specs.Logs.{Agrees, logged, place_at}
 use Rattle.gen1_outcomes.specs.Middles.{AreReached, Arrives, IsAdded, IsAt, IsReached, IsReachedBy, LeadsFrom, PlaysOn, Reaches, ReachesFrom}
-use Rattle.gen1_outcomes.specs.Script.{script_of, scripted}
+use Rattle.gen1_outcomes.specs.Nodes.{script_of, scripted}
 use Rattle.gen1_outcomes.proofs.Complete.{none_missed}
 use Rattle.gen1_outcomes.proofs.Lists.{same_or}
-use Rattle.gen1_outcomes.proofs.Swapping.{none_ordered, ordered_agree}
-use Rattle.gen1_outcomes.proofs.Shifts.{NoneMissed, agrees_first, agrees_then, arrives_by, arrives_there, dropped, follows_arrived, follows_from, joined_agree, none_both, on_whole, phase-dropped, phase-restarted, place-dropped, place_both, ready_on, rest-tree}
+use Rattle.gen1_outcomes.proofs.Shifts.{none_ordered, ordered_agree, NoneMissed, agrees_first, agrees_then, arrives_by, arrives_there, dropped, follows_arrived, follows_from, joined_agree, none_both, on_whole, phase-dropped, phase-restarted, place-dropped, place_both, ready_on, rest-tree}
 
 -- What is known of a position is known of each with the same bytes and the same rest.
 reached_as : (w : Walk) (one other : Middle) → other.bytes ≡ one.bytes → other.rest ≡ one.rest → IsReached w one → IsReached w other

@@ -2,14 +2,13 @@
 use Rattle.std.proofs.Common.{◌≡◌, List, ℕ, ◌+◌, ◌++◌, Bool, Option, Some, None, ap, arith, refl, sym, ◌∙◌, subst, ◌⊎◌, inl, inr, ◌-◌, ◌<◌, ◌≤◌, [], false, true, ◌∷◌, append-nil, append_assoc}
 use Rattle.std.proofs.lemmas.Bool.{false≢true}
 use Rattle.gen1_rolls.specs.Streams.{Drawn, IsFirst, IsStream, Stream, byte_at, first, span}
-use Rattle.gen1_rolls.proofs.First.{first-finds, first_within-is, first-exists}
-use Rattle.gen1_rolls.proofs.Period.{byte-small, every_byte}
+use Rattle.gen1_rolls.proofs.First.{first-finds, first_within-is, first-exists, byte-small, every_byte}
 use Rattle.gen1_machine.specs.Laws.{Done, Draw, Search, Tree, drawing_from, leads_to}
 use Rattle.gen1_machine.specs.Progress.{Phase, Progress, has_missed, on_field, set_last_damage, stay}
 use Rattle.gen1_machine.proofs.Trees.{HasTree, searched, phase-onward}
 use Rattle.gen1_outcomes.specs.declared.log.Entry.{Entry}
 use Rattle.gen1_outcomes.specs.Logs.{Agrees, place_at, Came, IsLogged, explored, place_past}
-use Rattle.gen1_outcomes.proofs.Shifts.{NoneMissed, joined-low, joined_bytes, joined_wide, place_both, agrees_first, agrees_then, dropped, none_both, on_whole, phase-dropped, ready_on, rest_after}
+use Rattle.gen1_outcomes.proofs.Shifts.{NoneMissed, joined-low, joined_bytes, joined_wide, place_both, agrees_first, agrees_then, dropped, none_both, on_whole, phase-dropped, ready_on, rest_after, none_each}
 use Rattle.std.specs.Borrow.{GName}
 use Rattle.gen1_rolls.specs.declared.look.ByteTest.TheVariants.{RotatedAtLeast}
 use Rattle.gen1_rolls.specs.declared.look.Look.TheVariants.{Remainder}
@@ -18,7 +17,7 @@ use Rattle.gen1_rolls.specs.Steady.{stream_of}
 use Rattle.gen1_layout.proofs.Chain.{choose-false, choose-true}
 use Rattle.gen1_layout.specs.Parts.{Parts, parts_of}
 use Rattle.gen1_layout.specs.Words.{Side, move_at}
-use Rattle.gen1_layout.specs.Within.{Stands, Within, setting_of}
+use Rattle.gen1_layout.specs.Shows.{Stands, Within, setting_of}
 use Rattle.gen1_machine.specs.Damage.{is_factor, vary}
 use Rattle.gen1_machine.specs.HitTest.{hit_or_miss}
 use Rattle.gen1_machine.specs.Ruling.{ruling_of}
@@ -38,11 +37,9 @@ use Rattle.gen1_outcomes.specs.Exchanged.{IsShownAt, PlaysRoll, after_test, roll
 use Rattle.gen1_outcomes.specs.Following.{AreOf, Leads, Walk}
 use Rattle.gen1_outcomes.specs.Listing.{untold}
 use Rattle.gen1_outcomes.specs.Middles.{EndsAt, IsAt, IsPlayedIn, LeadsFrom, PlaysFrom, PlaysOn}
-use Rattle.gen1_outcomes.specs.Nodes.{IsPathOf}
-use Rattle.gen1_outcomes.specs.Script.{script_of, scripted}
+use Rattle.gen1_outcomes.specs.Nodes.{IsPathOf, script_of, scripted}
 use Rattle.gen1_outcomes.proofs.Complete.{none_missed}
 use Rattle.gen1_outcomes.proofs.Exchange.{after_test-tree, damaged_if_hit, large-damage, rolled_before, rolls, varied}
-use Rattle.gen1_outcomes.proofs.Swapping.{none_each}
 use Rattle.gen1_outcomes.specs.declared.beginning.Left.TheVariants as lefts
 
 -- A tree of which no search fails leads to the same from any place of each stream with the same bytes. And a stream that agrees with one log and

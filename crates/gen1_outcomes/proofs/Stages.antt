@@ -14,7 +14,7 @@ use Rattle.gen1_machine.specs.Step.{close_update, opened, update, update_for}
 use Rattle.gen1_machine.specs.declared.terms.Request.{Request}
 use Rattle.gen1_machine.proofs.Shares.{shares_are_probabilities}
 use Rattle.gen1_layout.specs.Parts.{Parts, joined}
-use Rattle.gen1_layout.specs.Within.{blocks_of, setting_of, state_in}
+use Rattle.gen1_layout.specs.Shows.{blocks_of, setting_of, state_in}
 use Rattle.gen1_engine.proofs.Making.{both_move, plays_turn}
 use Rattle.gen1_outcomes.specs.declared.beginning.Left.{Left}
 use Rattle.gen1_outcomes.specs.declared.beginning.Left.TheVariants as lefts
@@ -35,15 +35,14 @@ use Rattle.gen1_outcomes.specs.Listing.{battle_at}
 use Rattle.gen1_outcomes.specs.Logs.{Agrees, AllFit, IsLogged, place_at}
 use Rattle.gen1_outcomes.specs.Merging.{AreDistinct}
 use Rattle.gen1_outcomes.specs.Middles.{Arrives, Gets, IsAdded, IsAt, IsPut, Joins, Reaches}
-use Rattle.gen1_outcomes.specs.Nodes.{AllDone, IsChance, LeadsOn, asked_at}
-use Rattle.gen1_outcomes.specs.Script.{script_of, scripted}
+use Rattle.gen1_outcomes.specs.Nodes.{AllDone, IsChance, LeadsOn, asked_at, script_of, scripted}
 use Rattle.gen1_outcomes.specs.Shares.{weight_at}
 use Rattle.gen1_outcomes.specs.Weights.{AddsPart, AddsPending, AddsUpdate, AreAlikeFrom, AreEqual, ArePending, Fraction, HasPart, HasProbabilities, HasRest, IsAlikeFrom, IsPartOf, IsTestOf, IsTreeFrom, Keeps, KeepsPending, are_of, nothing, of_chance, plus, share_of, sum_of_parts, times, unit}
 use Rattle.gen1_outcomes.proofs.Complete.{AreKnown, ListsFromEach, all_noted, some_middle}
 use Rattle.gen1_outcomes.proofs.Fractions.{equal-refl, equal-sym, equal-trans, nothing-plus, plus-assoc, plus-comm, plus-equal, plus-nothing, plus-positive, plus-times, sum-plus, times-equal, times-positive, unit-times}
 use Rattle.gen1_outcomes.proofs.Lists.{same_or}
 use Rattle.gen1_outcomes.proofs.Shifts.{arrives_by, arrives_there, dropped, dropped-is, phase-restarted, ready_on, rest-tree, tree-dropped, uses_moves}
-use Rattle.gen1_outcomes.proofs.Told.{shares_by_test}
+use Rattle.gen1_outcomes.proofs.Exchange.{shares_by_test}
 use Rattle.gen1_outcomes.proofs.Walking.{some_node}
 use Rattle.gen1_outcomes.proofs.Weights.{part_as, since_all}
 use Rattle.gen1_outcomes.proofs.Weighing.{IsSpent, IsWeighed, IsWhole, LeadsRight, spent, weighed_all, weighed_as, weighed_first, weighed_next, weighed_way}

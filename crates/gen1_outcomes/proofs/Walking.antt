@@ -15,10 +15,9 @@ use Rattle.gen1_outcomes.specs.declared.nodes.Chance.{Chance}
 use Rattle.gen1_outcomes.specs.declared.nodes.Node.{Node}
 use Rattle.gen1_outcomes.specs.declared.nodes.Nodes.{Nodes}
 use Rattle.gen1_outcomes.specs.declared.plain.PlainWalk.{PlainWalk}
-use Rattle.gen1_outcomes.specs.Bytes.{has, size}
-use Rattle.gen1_outcomes.specs.Classes.{alike_in}
-use Rattle.gen1_outcomes.specs.Following.{PlaysNext, PlaysWay, Walk}
 use Rattle.gen1_outcomes.specs.Nodes.{AllDone, AreBytes, AreLeft, AreOn, AreToCome, Covers, GoesOn, IsChance, IsDone, LeadsOn}
+use Rattle.gen1_outcomes.specs.Bytes.{has, size, alike_in}
+use Rattle.gen1_outcomes.specs.Following.{PlaysNext, PlaysWay, Walk}
 use Rattle.gen1_outcomes.specs.Plain.{ArePlain, EndsWith, GoesOnTo}
 
 pub leads_on : (old new : Nodes) (list : List Node) (len : ℕ) (node : Node) → new.list ≡ set list (len - 1) node → new.len ≡ len → new.at ≡ 0 → new.asked ≡ old.asked → new.options ≡ old.options

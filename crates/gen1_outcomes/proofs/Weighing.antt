@@ -2,8 +2,7 @@
 --
 -- The levels of the draws are parts of a whole. The fraction is what all bytes that are finished have of it.
 use Rattle.std.proofs.Common.{◌≡◌, ◌⊎◌, inl, inr, ℕ, zero, suc, ◌*◌, ◌+◌, ◌-◌, ◌<◌, ◌≤◌, ◌∷◌, Bool, IsTrue, true, false, List, [], ap, ap₂, arith, cond, get_or, length, refl, subst, sym, ◌∙◌}
-use Rattle.gen1_rolls.specs.Looks.{passes}
-use Rattle.gen1_rolls.specs.Streams.{IsStream, Stream}
+use Rattle.gen1_rolls.specs.Streams.{passes, IsStream, Stream}
 use Rattle.gen1_rolls.specs.declared.look.Look.{Look}
 use Rattle.gen1_machine.specs.Laws.{count_of, leads_to, IsShare, Tree}
 use Rattle.gen1_machine.specs.State.{Field}
@@ -18,11 +17,10 @@ use Rattle.gen1_outcomes.specs.declared.nodes.Node.{Node}
 use Rattle.gen1_outcomes.specs.declared.nodes.Nodes.{Nodes}
 use Rattle.gen1_outcomes.specs.declared.options.OutcomeOptions.{OutcomeOptions}
 use Rattle.gen1_outcomes.specs.declared.script.Script.{Script}
-use Rattle.gen1_outcomes.specs.Bytes.{has}
-use Rattle.gen1_outcomes.specs.Classes.{alike_in}
+use Rattle.gen1_outcomes.specs.Nodes.{Adds, AllDone, GoesOn, IsChance, IsThen, LeadsOn, Notes, Passes, asked_at}
+use Rattle.gen1_outcomes.specs.Bytes.{has, alike_in}
 use Rattle.gen1_outcomes.specs.Complete.{GoesBy, IsExact, place_before}
 use Rattle.gen1_outcomes.specs.Logs.{IsLogged, NotesAll, NotesEntry}
-use Rattle.gen1_outcomes.specs.Nodes.{Adds, AllDone, GoesOn, IsChance, IsThen, LeadsOn, Notes, Passes, asked_at}
 use Rattle.gen1_outcomes.specs.Weights.{AreEqual, Fraction, nothing, of_chance, plus, times}
 use Rattle.gen1_outcomes.proofs.Complete.{AreKnown, CanAsk, large_all, not_both, settled_not, step_as}
 use Rattle.gen1_outcomes.proofs.Fair.{IsFair, IsNewFor, fair_goes, fair_new, full_new, is_on, may_of, node_at}

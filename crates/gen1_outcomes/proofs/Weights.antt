@@ -24,7 +24,7 @@ use Rattle.gen1_machine.proofs.TurnCosts.{anywhere, end-spends, replace-costs, s
 use Rattle.gen1_engine.proofs.Making.{both_move, goes_on}
 use Rattle.gen1_switching.proofs.Stepped.{step_accepts}
 use Rattle.gen1_layout.specs.Parts.{Parts, SideParts, joined}
-use Rattle.gen1_layout.specs.Within.{blocks_of, setting_of, state_in}
+use Rattle.gen1_layout.specs.Shows.{blocks_of, setting_of, state_in}
 use Rattle.gen1_outcomes.specs.declared.beginning.Left.{Left}
 use Rattle.gen1_outcomes.specs.declared.byte_set.ByteSet.{ByteSet}
 use Rattle.gen1_outcomes.specs.declared.log.Entry.{Entry}
@@ -43,15 +43,14 @@ use Rattle.gen1_outcomes.specs.Listing.{KeepsFirst, battle_at}
 use Rattle.gen1_outcomes.specs.Logs.{Agrees, AllFit, NotesAll, NotesEntry}
 use Rattle.gen1_outcomes.specs.Merging.{AreDistinct, IsIndexed}
 use Rattle.gen1_outcomes.specs.Middles.{PlaysFrom, PlaysOn}
-use Rattle.gen1_outcomes.specs.Nodes.{AllDone, IsChance, LeadsOn, Notes, Passes, asked_at}
-use Rattle.gen1_outcomes.specs.Script.{script_of, scripted}
+use Rattle.gen1_outcomes.specs.Nodes.{AllDone, IsChance, LeadsOn, Notes, Passes, asked_at, script_of, scripted}
 use Rattle.gen1_outcomes.specs.Shares.{Adds, GetsShare, weight_at, weight_before}
 use Rattle.gen1_outcomes.specs.Weights.{AddsPart, AddsUpdate, AreEqual, Fraction, HasPart, IsNoPart, IsTestOf, IsTreeFrom, Tells, are_of, nothing, of_chance, plus, times, unit}
 use Rattle.gen1_outcomes.proofs.Complete.{AreKnown, all_noted}
 use Rattle.gen1_outcomes.proofs.Fractions.{equal-refl, equal-sym, equal-trans, grows-plus, plus-assoc, plus-equal, plus-nothing, same-equal, times-assoc, times-equal, times-nothing, times-plus, times-positive, times-unit, no_parts, plus-positive}
 use Rattle.gen1_outcomes.proofs.Lists.{same_or}
 use Rattle.gen1_outcomes.proofs.Shares.{before_less, before_new}
-use Rattle.gen1_outcomes.proofs.Told.{shares_by_tests}
+use Rattle.gen1_outcomes.proofs.Exchange.{shares_by_tests}
 use Rattle.gen1_outcomes.proofs.Walking.{some_node}
 use Rattle.gen1_outcomes.proofs.Weighing.{IsSpent, IsWeighed, LeadsRight, spent, weighed_all, weighed_first, weighed_next, weighed_way}
 

@@ -20,7 +20,7 @@ use Rattle.gen1_machine.specs.Step.{close_update}
 use Rattle.gen1_machine.specs.Turn.{Acts, Suffers, do_parts, end_turn, is_cut, of_side, set_picked, turn}
 use Rattle.gen1_machine.specs.TurnOrder.{in_order}
 use Rattle.gen1_layout.specs.Parts.{Parts}
-use Rattle.gen1_layout.specs.Within.{Setting, Stands, Within, setting_of}
+use Rattle.gen1_layout.specs.Shows.{Setting, Stands, Within, setting_of}
 use Rattle.gen1_hits.specs.Planned.{Follows}
 use Rattle.gen1_switching.specs.Updates.{Plays, drawing_on}
 use Rattle.gen1_turn.specs.TurnParts.{suffering}

@@ -1,13 +1,12 @@
 -- Which streams go by the draws of a way, and lists that have a battle for every stream (docs/MECHANICS.md, "Link numbers").
 use Rattle.std.specs.Prelude.{List, None, Option, Some, slice_index_or, suc, true, zero, ℕ, ◌<◌, ◌≡◌, ◌≤◌, ◌⊎◌}
-use Rattle.gen1_rolls.specs.Looks.{passes}
-use Rattle.gen1_rolls.specs.Streams.{IsStream, Stream, byte_at, first}
+use Rattle.gen1_rolls.specs.Streams.{passes, IsStream, Stream, byte_at, first}
 use Rattle.gen1_machine.specs.declared.choice.Choice.{Choice}
 use Rattle.gen1_machine.specs.Progress.{Progress}
 use Rattle.gen1_machine.specs.Ruling.{ruling_of}
 use Rattle.gen1_machine.specs.State.{State}
 use Rattle.gen1_layout.specs.Parts.{Parts, joined}
-use Rattle.gen1_layout.specs.Within.{Stands}
+use Rattle.gen1_layout.specs.Shows.{Stands}
 use Rattle.gen1_engine.specs.Update.{AreOffered}
 use Rattle.gen1_outcomes.specs.declared.beginning.Left.{Left}
 use Rattle.gen1_outcomes.specs.declared.middles.Middle.{Middle}

@@ -1,7 +1,7 @@
 -- The rest of an update from the roll of a damage on, with the hit test before the roll (docs/MECHANICS.md, "Action", "Hit test", "Factors").
 use Rattle.std.specs.Prelude.{false, ◌≡◌}
 use Rattle.gen1_layout.specs.Parts.{Parts}
-use Rattle.gen1_layout.specs.Within.{Setting, Within}
+use Rattle.gen1_layout.specs.Shows.{Setting, Within}
 use Rattle.gen1_layout.specs.Words.{Bool, Phase, Progress, Side, move_at, ◌▸◌}
 use Rattle.gen1_rolls.specs.Draws.{Drawing, Since, Source, StandsIn, StepsTo}
 use Rattle.gen1_machine.specs.Action.{keep_accuracy, resume, strike}
@@ -13,7 +13,7 @@ use Rattle.gen1_machine.specs.Ruling.{Ruling, ruling_of}
 use Rattle.gen1_machine.specs.Step.{close_update}
 use Rattle.gen1_machine.specs.Turn.{end_turn}
 use Rattle.gen1_turn.specs.declared.action.two_parts.Roll.{Roll}
-use Rattle.gen1_turn.specs.ActionSteps.{late_part}
+use Rattle.gen1_turn.specs.Action.{late_part}
 use Rattle.gen1_turn.specs.TurnParts.{suffering}
 use Rattle.gen1_turn.specs.TwoParts.{IsRolling}
 

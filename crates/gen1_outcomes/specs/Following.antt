@@ -11,17 +11,15 @@ use Rattle.gen1_machine.specs.Ruling.{ruling_of}
 use Rattle.gen1_machine.specs.Turn.{turn}
 use Rattle.gen1_machine.specs.Step.{close_update}
 use Rattle.gen1_layout.specs.Parts.{Parts}
-use Rattle.gen1_layout.specs.Shows.{Telling}
+use Rattle.gen1_layout.specs.Shows.{Telling, Stands, Within, setting_of}
 use Rattle.gen1_layout.specs.Operations.{Scene}
-use Rattle.gen1_layout.specs.Within.{Stands, Within, setting_of}
 use Rattle.gen1_engine.specs.Update.{AreOffered}
 use Rattle.gen1_outcomes.specs.declared.log.Entry.{Entry}
 use Rattle.gen1_outcomes.specs.declared.nodes.Chance.{Chance}
 use Rattle.gen1_outcomes.specs.declared.nodes.Nodes.{Nodes}
 use Rattle.gen1_outcomes.specs.declared.options.OutcomeOptions.{OutcomeOptions}
 use Rattle.gen1_outcomes.specs.Logs.{Agrees, IsLogged}
-use Rattle.gen1_outcomes.specs.Nodes.{AllDone, IsChance, IsPathOf, LeadsOn}
-use Rattle.gen1_outcomes.specs.Script.{script_of}
+use Rattle.gen1_outcomes.specs.Nodes.{AllDone, IsChance, IsPathOf, LeadsOn, script_of}
 use Rattle.gen1_switching.specs.Updates.{Steps, UpdatesDrawing, drawing_on}
 
 -- A walk through the ways of an update of a battle by a pair of choices: which of them are listed, the draws of the next one, and whether

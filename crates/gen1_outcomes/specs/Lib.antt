@@ -1,9 +1,7 @@
 -- Definitions that the contracts cite.
 pub mod Bytes
-pub mod Classes
-pub mod Nodes
-pub mod Script
 pub mod Chances
+pub mod Nodes
 pub mod Beginning
 pub mod Exchanged
 pub mod Following
@@ -15,4 +13,3 @@ pub mod Merging
 pub mod Shares
 pub mod Weights
 pub mod Plain
-pub mod Faults

@@ -1,22 +1,23 @@
 -- A list of the battles that can follow from a pair of choices, with their weights.
-use Rattle.std.specs.Prelude.{List, [], false, take, slice_index_or, ℕ, ◌*◌, ◌++◌, ◌+◌, ◌<◌, ◌∷◌, ◌≡◌, ◌≤◌, ◌⊎◌}
+use Rattle.std.specs.Prelude.{List, [], false, take, slice_index_or, ℕ, ◌*◌, ◌++◌, ◌+◌, ◌<◌, ◌∷◌, ◌≡◌, ◌≤◌, ◌⊎◌, codes}
 use Rattle.std.specs.List.{sum_by}
 use Rattle.gen1_rolls.specs.Streams.{Drawn}
 use Rattle.gen1_machine.specs.declared.choice.Choice.{Choice}
 use Rattle.gen1_machine.specs.State.{State}
 use Rattle.gen1_layout.specs.Parts.{Parts}
-use Rattle.gen1_layout.specs.Shows.{Telling}
+use Rattle.gen1_layout.specs.Shows.{Telling, Stands}
 use Rattle.gen1_outcomes.specs.declared.log.Entry.{Entry}
 use Rattle.gen1_outcomes.specs.declared.nodes.Nodes.{Nodes}
 use Rattle.gen1_outcomes.specs.declared.options.OutcomeOptions.{OutcomeOptions}
 use Rattle.gen1_outcomes.specs.declared.outcomes.Outcomes.{Outcomes}
 use Rattle.gen1_outcomes.specs.declared.successor.Successor.{Successor}
-use Rattle.gen1_layout.specs.Within.{Stands}
-use Rattle.gen1_engine.specs.Update.{AreOffered}
+use Rattle.gen1_engine.specs.Update.{AreOffered, refusal_number}
 use Rattle.gen1_outcomes.specs.Following.{Leads, Walk}
 use Rattle.gen1_outcomes.specs.Logs.{Agrees, IsLogged, IsOrderOf}
-use Rattle.gen1_outcomes.specs.Nodes.{IsPathOf}
-use Rattle.gen1_outcomes.specs.Script.{script_of}
+use Rattle.gen1_outcomes.specs.Nodes.{IsPathOf, script_of}
+use Rattle.gen1_engine.specs.Refusals.{refusal_words}
+use Rattle.gen1_outcomes.specs.declared.fault.OutcomesFault.{OutcomesFault}
+use Rattle.gen1_outcomes.specs.declared.fault.OutcomesFault.TheVariants as faults
 
 abbrev pub weight_of : Successor → ℕ
 weight_of x = x.low + x.high * 18446744073709551616
@@ -93,3 +94,17 @@ StillFollow w before old count new =
 pub record HasSome (list : Outcomes) : Type 0 where
   pub whole : 1 ≤ list.whole
   pub one : list.left_out ≡ 0 → 1 ≤ list.count
+
+-- The numbers and the texts of why outcomes are not listed.
+
+abbrev pub fault_number : OutcomesFault → ℕ
+fault_number (faults.Refused why) = refusal_number why
+fault_number faults.Places = 4
+fault_number faults.Table = 5
+fault_number faults.Size = 6
+
+abbrev pub fault_words : OutcomesFault → List ℕ
+fault_words (faults.Refused why) = refusal_words why
+fault_words faults.Places = codes "there are more outcomes than places for them"
+fault_words faults.Table = codes "there are more outcomes than places in the table"
+fault_words faults.Size = codes "the update has too many draws to go through"

@@ -5,9 +5,8 @@ use Rattle.gen1_rolls.specs.declared.look.ByteTest.{ByteTest}
 use Rattle.gen1_rolls.specs.declared.look.Look.{Look}
 use Rattle.gen1_rolls.specs.declared.look.Look.TheVariants.{Remainder}
 use Rattle.gen1_rolls.specs.Draws.{Drawing}
-use Rattle.gen1_rolls.specs.Looks.{passes, sees}
+use Rattle.gen1_rolls.specs.Streams.{passes, sees, IsStream, Stream, byte_at, first, span}
 use Rattle.gen1_rolls.specs.Steady.{StandsAt, stream_of}
-use Rattle.gen1_rolls.specs.Streams.{IsStream, Stream, byte_at, first, span}
 use Rattle.gen1_outcomes.specs.declared.byte_set.ByteSet.{ByteSet}
 use Rattle.gen1_outcomes.specs.declared.explorer.Explorer.{Explorer}
 use Rattle.gen1_outcomes.specs.declared.log.Entry.{Entry}
@@ -15,9 +14,8 @@ use Rattle.gen1_outcomes.specs.declared.log.Entry.TheVariants.{Draw, Found, Miss
 use Rattle.gen1_outcomes.specs.declared.nodes.Asked.TheVariants.{First, Next}
 use Rattle.gen1_outcomes.specs.declared.nodes.Nodes.{Nodes}
 use Rattle.gen1_outcomes.specs.declared.script.Script.{Script}
+use Rattle.gen1_outcomes.specs.Nodes.{IsSettled, Marks, NotesNew, Passes, scripted}
 use Rattle.gen1_outcomes.specs.Bytes.{ArePassing, IsAll, IsNone}
-use Rattle.gen1_outcomes.specs.Nodes.{IsSettled, Marks, NotesNew, Passes}
-use Rattle.gen1_outcomes.specs.Script.{scripted}
 
 -- The place after what a search from n on finds.
 abbrev pub place_past : Option ℕ → ℕ → ℕ

@@ -16,7 +16,7 @@ use Rattle.gen1_machine.specs.Ruling.{ruling_of}
 use Rattle.gen1_machine.specs.State.{State}
 use Rattle.gen1_machine.specs.Turn.{turn}
 use Rattle.gen1_layout.specs.Parts.{Parts, parts_of}
-use Rattle.gen1_layout.specs.Within.{Stands, Within, setting_of}
+use Rattle.gen1_layout.specs.Shows.{Stands, Within, setting_of}
 use Rattle.gen1_layout.specs.Words.{move_at}
 use Rattle.gen1_turn.specs.declared.action.two_parts.Roll.{Roll}
 use Rattle.gen1_engine.specs.Update.{AreOffered}
@@ -31,12 +31,11 @@ use Rattle.gen1_outcomes.specs.Beginning.{Begins, GoesTo, IsReadyFor, have_two_a
 use Rattle.gen1_outcomes.specs.Exchanged.{tested_first}
 use Rattle.gen1_outcomes.specs.Following.{AreOf, Follows, Leads, Walk, turn_on}
 use Rattle.gen1_outcomes.specs.Listing.{IsPart, log_of, untold, width_of}
-use Rattle.gen1_outcomes.specs.Nodes.{IsPathOf, IsTooLarge}
+use Rattle.gen1_outcomes.specs.Nodes.{IsPathOf, IsTooLarge, script_of}
+use Rattle.gen1_outcomes.specs.Chances.{IsSum, IsTooFine}
 use Rattle.gen1_outcomes.specs.Logs.{Agrees, IsLogged, IsOrderOf, logged, place_at}
-use Rattle.gen1_outcomes.specs.Script.{script_of}
 use Rattle.gen1_outcomes.specs.declared.middles.Middle.{Middle}
 use Rattle.gen1_outcomes.specs.declared.middles.Middles.{Middles}
-use Rattle.gen1_outcomes.specs.Chances.{IsSum, IsTooFine}
 
 -- Two positions agree: their battles have the same bytes, and the rest of the update is the same.
 pub record GoOnAlike (one other : Middle) : Type 0 where

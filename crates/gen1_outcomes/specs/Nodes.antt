@@ -1,16 +1,17 @@
 -- The draws of a way, and how one way leads to the next.
-use Rattle.std.specs.Prelude.{Bool, List, length, true, ℕ, slice_index, slice_index_or, slice_set, ◌+◌, ◌-◌, ◌*◌, ◌/◌, ◌^◌, ◌<◌, ◌≡◌, ◌≢◌, ◌≤◌, ◌⊎◌, if◌then◌else◌}
+use Rattle.std.specs.Prelude.{Bool, ◌/◌, ◌<◌, ◌≡◌, ℕ, if◌then◌else◌, slice_index, ◌*◌, ◌+◌, ◌-◌, ◌≤◌, ◌^◌, ◌⊎◌, List, length, true, slice_index_or, slice_set, ◌≢◌, nat_lt}
+use Rattle.gen1_outcomes.specs.declared.byte_set.ByteSet.{ByteSet}
 use Rattle.gen1_rolls.specs.declared.look.Look.{Look}
 use Rattle.gen1_rolls.specs.declared.look.Look.TheVariants.{Factor}
-use Rattle.gen1_outcomes.specs.declared.byte_set.ByteSet.{ByteSet}
+use Rattle.gen1_outcomes.specs.declared.nodes.Chance.{Chance}
 use Rattle.gen1_outcomes.specs.declared.nodes.Asked.{Asked}
 use Rattle.gen1_outcomes.specs.declared.nodes.Asked.TheVariants.{Unknown}
-use Rattle.gen1_outcomes.specs.declared.nodes.Chance.{Chance}
 use Rattle.gen1_outcomes.specs.declared.nodes.Node.{Node}
 use Rattle.gen1_outcomes.specs.declared.nodes.Nodes.{Nodes}
-use Rattle.gen1_outcomes.specs.Bytes.{has, size}
+use Rattle.gen1_rolls.specs.Steady.{Generator, one_up}
+use Rattle.gen1_outcomes.specs.declared.script.Script.{Script}
+use Rattle.gen1_outcomes.specs.Bytes.{has, size, alike_in}
 use Rattle.gen1_outcomes.specs.Chances.{IsBelow}
-use Rattle.gen1_outcomes.specs.Classes.{alike_in}
 
 -- The class of a byte in a set: those of its bytes that are alike to it in the classes of damage.
 abbrev pub IsClass : ℕ → Look → ℕ → ByteSet → ByteSet → Type 0
@@ -197,3 +198,21 @@ pub record NotesNew (drawn : ℕ) (asked : Asked) (seen : Look) (may : ByteSet) 
 -- The way is marked as too large.
 abbrev pub Marks : Nodes → Nodes → Type 0
 Marks old new = new ≡ record old { too_large = true }
+
+-- A generator whose first bytes are given (docs/MECHANICS.md, "Link numbers").
+
+-- The generator of a path, before its first draw.
+abbrev pub script_of : List ℕ → Script
+script_of path = record { path = path; at = 0; number = 0 }
+
+-- The byte that it draws next: the next given one, and after 24 of them the number.
+abbrev pub next_byte : Script → ℕ
+next_byte s = if nat_lt s.at 24 then slice_index s.path s.at else s.number
+
+-- The script after a draw.
+abbrev pub after_draw : Script → Script
+after_draw s = if nat_lt s.at 24 then record s { at = s.at + 1 } else record s { number = one_up s.number }
+
+-- How it draws: any 280 draws in a row hold every byte, since after 24 it counts up.
+abbrev pub scripted : Generator Script
+scripted = record { byte = next_byte; next = after_draw; width = 280 }

@@ -5,18 +5,16 @@ use Rattle.gen1_rolls.specs.declared.look.Look.TheVariants.{Below, Factor, Remai
 use Rattle.gen1_machine.specs.declared.choice.Choice.{Choice}
 use Rattle.gen1_machine.specs.State.{State}
 use Rattle.gen1_layout.specs.Parts.{Parts}
-use Rattle.gen1_layout.specs.Shows.{Telling}
-use Rattle.gen1_layout.specs.Within.{Stands}
+use Rattle.gen1_layout.specs.Shows.{Telling, Stands}
 use Rattle.gen1_engine.specs.Replay.{choices_at}
 use Rattle.gen1_engine.specs.Update.{AreOffered}
 use Rattle.gen1_outcomes.specs.declared.nodes.Chance.{Chance}
 use Rattle.gen1_outcomes.specs.declared.nodes.Node.{Node}
 use Rattle.gen1_outcomes.specs.declared.nodes.Nodes.{Nodes}
+use Rattle.gen1_outcomes.specs.Nodes.{AllDone, IsChance, IsPathOf, LeadsOn, script_of}
 use Rattle.gen1_outcomes.specs.Bytes.{size}
 use Rattle.gen1_outcomes.specs.Following.{Leads}
 use Rattle.gen1_outcomes.specs.Logs.{IsLogged}
-use Rattle.gen1_outcomes.specs.Nodes.{AllDone, IsChance, IsPathOf, LeadsOn}
-use Rattle.gen1_outcomes.specs.Script.{script_of}
 use Rattle.gen1_outcomes.specs.declared.plain.PlainDraw.{PlainDraw}
 use Rattle.gen1_outcomes.specs.declared.plain.PlainWalk.{PlainWalk}
 

@@ -8,7 +8,7 @@ use Rattle.gen1_machine.specs.Ruling.{ruling_of}
 use Rattle.gen1_machine.specs.State.{Field, State}
 use Rattle.gen1_machine.specs.Step.{opened}
 use Rattle.gen1_layout.specs.Parts.{Parts, joined}
-use Rattle.gen1_layout.specs.Within.{blocks_of, setting_of, state_in}
+use Rattle.gen1_layout.specs.Shows.{blocks_of, setting_of, state_in}
 use Rattle.gen1_outcomes.specs.declared.beginning.Left.{Left}
 use Rattle.gen1_outcomes.specs.declared.merging.Tally.{Tally}
 use Rattle.gen1_outcomes.specs.declared.middles.Middle.{Middle}

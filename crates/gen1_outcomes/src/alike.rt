@@ -1,9 +1,8 @@
 //! The bytes that a look sees alike, or that are in a class of damage (docs/MECHANICS.md, "Link numbers").
 ghost use Rattle.std.specs.Prelude.{ℕ, min, nat_lt, ◌%◌, ◌*◌, ◌+◌, ◌-◌, ◌/◌, ◌<◌, ◌==◌, ◌≡◌, ◌≢◌, ◌≤◌, if◌then◌else◌};
 ghost use Rattle.std.specs.Int.{bit_at};
-ghost use Rattle.gen1_outcomes.specs.Bytes.{has};
-ghost use Rattle.gen1_outcomes.specs.Classes.{alike_in, class_of, damage_by, is_in, last_factor, part_told};
-ghost use Rattle.gen1_rolls.specs.Looks.{limit_of, rotated_right_1};
+ghost use Rattle.gen1_outcomes.specs.Bytes.{has, alike_in, class_of, damage_by, is_in, last_factor, part_told};
+ghost use Rattle.gen1_rolls.specs.Streams.{limit_of, rotated_right_1};
 
 use crate::byte_set::ByteSet;
 use crate::classes::{class_of, least_factor, told};
@@ -128,7 +127,7 @@ fn on_one_side(among: &ByteSet, other: &ByteSet, inside: bool) -> ByteSet
 }
 
 // The bits of a word whose places leave this remainder when they are divided by 2.
-#[tactic(auto, using(crate::proofs::Repeated::second))]
+#[tactic(auto, using(crate::proofs::Sets::second))]
 fn every_second(remainder: u8) -> u64
     requires { remainder < 2 }
     ensures { (i : ℕ) → i < 64 → bit_at result i ≡ (if remainder == i % 2 then 1 else 0) }
@@ -137,7 +136,7 @@ fn every_second(remainder: u8) -> u64
 }
 
 // The bits of a word whose places leave this remainder when they are divided by 4.
-#[tactic(auto, using(crate::proofs::Repeated::fourth))]
+#[tactic(auto, using(crate::proofs::Sets::fourth))]
 fn every_fourth(remainder: u8) -> u64
     requires { remainder < 4 }
     ensures { (i : ℕ) → i < 64 → bit_at result i ≡ (if remainder == i % 4 then 1 else 0) }
@@ -146,7 +145,7 @@ fn every_fourth(remainder: u8) -> u64
 }
 
 // The bits of a word whose places leave this remainder when they are divided by 8.
-#[tactic(auto, using(crate::proofs::Repeated::eighth))]
+#[tactic(auto, using(crate::proofs::Sets::eighth))]
 fn every_eighth(remainder: u8) -> u64
     requires { remainder < 8 }
     ensures { (i : ℕ) → i < 64 → bit_at result i ≡ (if remainder == i % 8 then 1 else 0) }

@@ -1,7 +1,7 @@
 //! Sets of bytes (docs/MECHANICS.md, "Link numbers").
 ghost use Rattle.std.specs.Prelude.{Bool, IfNone, IfSome, IsFalse, IsTrue, ℕ, min, nat_lt, ◌%◌, ◌*◌, ◌+◌, ◌-◌, ◌^◌, ◌<◌, ◌≡◌, ◌≤◌, ◌≢◌, ◌==◌, if◌then◌else◌};
 ghost use Rattle.std.specs.Int.{bit_at};
-ghost use Rattle.gen1_rolls.specs.Looks.{passes, rotated_left_3, rotated_right_1};
+ghost use Rattle.gen1_rolls.specs.Streams.{passes, rotated_left_3, rotated_right_1};
 ghost use Rattle.gen1_outcomes.specs.Bytes.{bits_set, has, size};
 
 use gen1_rolls::ByteTest;
@@ -39,7 +39,7 @@ impl ByteSet {
     }
 
     /// The bytes whose place among 64 neighbours is set in the word.
-    #[tactic(auto, using(crate::proofs::Repeated::repeated_has))]
+    #[tactic(auto, using(crate::proofs::Sets::repeated_has))]
     pub fn repeated(word: u64) -> Self
         ensures { (b : ℕ) → b < 256 → has result b ≡ bit_at word (b % 64) }
     {
@@ -246,7 +246,7 @@ fn between(first: u16, next: u16, least: u16, word: u64) -> u64
 }
 
 // The bytes of such a word that are below a bound when rotated.
-#[tactic(auto, using(crate::proofs::Repeated::halves_has))]
+#[tactic(auto, using(crate::proofs::Sets::halves_has))]
 fn halves(bound: u16, least: u16) -> u64
     requires { least ≤ 96 }
     ensures { (i : ℕ) → i < 64
@@ -257,7 +257,7 @@ fn halves(bound: u16, least: u16) -> u64
 }
 
 // The odd bytes of such a word that are below a bound when rotated. Each is 128 more, so rotated, than the even one before it.
-#[tactic(auto, using(crate::proofs::Repeated::odd_has))]
+#[tactic(auto, using(crate::proofs::Sets::odd_has))]
 fn odd_below(bound: u16, least: u16) -> u64
     requires { least ≤ 96 }
     ensures { (i : ℕ) → i < 64 → bit_at result i

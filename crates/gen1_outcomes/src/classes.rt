@@ -1,6 +1,6 @@
 //! Classes of damage (docs/MECHANICS.md, "Link numbers").
 ghost use Rattle.std.specs.Prelude.{◌≡◌, ◌≤◌};
-ghost use Rattle.gen1_outcomes.specs.Classes.{KeepsEdgeApart, class_of, least_factor, part_told, told};
+ghost use Rattle.gen1_outcomes.specs.Bytes.{KeepsEdgeApart, class_of, least_factor, part_told, told};
 
 use gen1_rolls::Look;
 

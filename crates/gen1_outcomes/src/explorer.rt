@@ -1,14 +1,12 @@
 //! A generator that takes an update through all its ways, one after the other (docs/MECHANICS.md, "Link numbers").
 ghost use Rattle.std.specs.Prelude.{IfNone, IfSome, IsFalse, IsTrue, [], ◌++◌, ◌∷◌, ◌≡◌, ◌⊎◌};
-ghost use Rattle.gen1_outcomes.specs.Script.{script_of, scripted};
+ghost use Rattle.gen1_outcomes.specs.Nodes.{script_of, scripted, IsFresh, IsSettled, Marks, NotesNew, Passes};
 ghost use Rattle.gen1_outcomes.specs.Bytes.{ArePassing, IsNone};
 ghost use Rattle.gen1_outcomes.specs.declared.log.Entry.TheVariants as entries;
 ghost use Rattle.gen1_outcomes.specs.Logs.{NotesEntry};
-ghost use Rattle.gen1_outcomes.specs.Nodes.{IsFresh, IsSettled, Marks, NotesNew, Passes};
 ghost use Rattle.gen1_rolls.specs.Draws.{DrawsByte, FindsAs, FindsNone};
-ghost use Rattle.gen1_rolls.specs.Looks.{passes};
+ghost use Rattle.gen1_rolls.specs.Streams.{passes, IsStream};
 ghost use Rattle.gen1_rolls.specs.Steady.{steady, stream_of};
-ghost use Rattle.gen1_rolls.specs.Streams.{IsStream};
 
 use crate::byte_set::ByteSet;
 use crate::log::{Entry, Log};

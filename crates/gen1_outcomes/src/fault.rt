@@ -1,6 +1,6 @@
 //! Why outcomes are not listed (docs/MECHANICS.md, "Link numbers").
 ghost use Rattle.std.specs.Prelude.{Some, ◌≡◌};
-ghost use Rattle.gen1_outcomes.specs.Faults.{fault_number, fault_words};
+ghost use Rattle.gen1_outcomes.specs.Listing.{fault_number, fault_words};
 
 use gen1_engine::Refusal;
 use std::error::Error;

@@ -1,9 +1,8 @@
 //! The draws of a way, each with the bytes that are still to be tried (docs/MECHANICS.md, "Link numbers").
 ghost use Rattle.std.specs.Prelude.{IfNone, IfSome, IsFalse, IsTrue, false, nat_le, slice_index, slice_index_or, true, ℕ, ◌*◌, ◌+◌, ◌<◌, ◌≡◌, ◌≤◌, ◌⊎◌, if◌then◌else◌};
 ghost use Rattle.gen1_rolls.specs.declared.look.Look.TheVariants.{Below};
-ghost use Rattle.gen1_rolls.specs.Looks.{alike, rotated_right_1};
-ghost use Rattle.gen1_outcomes.specs.Bytes.{has, size};
-ghost use Rattle.gen1_outcomes.specs.Classes.{alike_in, middle_factor};
+ghost use Rattle.gen1_rolls.specs.Streams.{alike, rotated_right_1};
+ghost use Rattle.gen1_outcomes.specs.Bytes.{has, size, alike_in, middle_factor};
 
 use crate::alike::alike_to;
 use crate::byte_set::ByteSet;

@@ -4,7 +4,7 @@ ghost use Rattle.std.specs.Prelude.{IfNone, IfOk, IfSome, IsFalse, IsTrue, None,
 ghost use Rattle.gen1_rolls.specs.declared.look.Look.TheVariants.{Factor};
 ghost use Rattle.gen1_machine.specs.declared.choice.Choice.{Choice};
 ghost use Rattle.gen1_machine.specs.State.{State};
-ghost use Rattle.gen1_layout.specs.Within.{Stands};
+ghost use Rattle.gen1_layout.specs.Shows.{Stands};
 ghost use Rattle.gen1_layout.specs.Words.{HasRoom};
 ghost use Rattle.gen1_engine.specs.Replay.{choices_at};
 ghost use Rattle.gen1_engine.specs.Update.{AreOffered};

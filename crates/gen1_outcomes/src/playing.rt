@@ -3,7 +3,7 @@ ghost use Rattle.std.specs.Prelude.{[]};
 ghost use Rattle.gen1_rolls.specs.Draws.{StepsTo};
 ghost use Rattle.gen1_machine.specs.State.{State};
 ghost use Rattle.gen1_layout.specs.Operations.{scene};
-ghost use Rattle.gen1_layout.specs.Within.{Stands};
+ghost use Rattle.gen1_layout.specs.Shows.{Stands};
 ghost use Rattle.gen1_layout.specs.Words.{AddsAtMost, HasRoom};
 ghost use Rattle.gen1_engine.specs.Update.{AreOffered};
 ghost use Rattle.gen1_outcomes.specs.Following.{Plays};

@@ -2,7 +2,7 @@
 ghost use Rattle.std.specs.Prelude.{length, slice_index, ◌<◌, ◌≡◌};
 ghost use Rattle.gen1_rolls.specs.Steady.{steady, stream_of};
 ghost use Rattle.gen1_rolls.specs.Streams.{IsStream};
-ghost use Rattle.gen1_outcomes.specs.Script.{scripted};
+ghost use Rattle.gen1_outcomes.specs.Nodes.{scripted};
 
 use gen1_rolls::{ByteTest, Look, Rolls, Steady, draw_from, search_from};
 

@@ -1,7 +1,7 @@
 //! Each way of an update apart (docs/MECHANICS.md, "Link numbers").
 ghost use Rattle.std.specs.Prelude.{IfErr, IfNone, IfOk, IfSome, IsOk, IsOkUnless, Some, [], false, ◌≡◌, ◌⊎◌};
 ghost use Rattle.gen1_machine.specs.State.{State};
-ghost use Rattle.gen1_layout.specs.Within.{Stands};
+ghost use Rattle.gen1_layout.specs.Shows.{Stands};
 ghost use Rattle.gen1_layout.specs.Words.{HasRoom, Reads, ReadsPacked};
 ghost use Rattle.gen1_engine.specs.Update.{AreOffered, Tests};
 ghost use Rattle.gen1_outcomes.specs.Beginning.{have_two_actions};

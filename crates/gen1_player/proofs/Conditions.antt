@@ -19,7 +19,7 @@ use Rattle.gen1_machine.specs.Conditions.{after_haze, with_bad_poison, with_bide
 use Rattle.gen1_machine.specs.State.{Active, Field, Party, active_in, changed_active, changed_conditions, changed_member, fallen, has_fallen_in, health_in, member_at, member_in, party, who_in, with_current_move, with_member, with_pp_spent, with_types_of, with_sleep_one_less}
 use Rattle.gen1_machine.specs.EarlyEffects.{with_levelled_stats}
 use Rattle.gen1_machine.specs.SwitchingIn.{switch_event, with_sent_out}
-use Rattle.gen1_machine.proofs.Showing.{member-after, BothOut, IsOut}
+use Rattle.gen1_machine.proofs.Watching.{member-after, BothOut, IsOut}
 use Rattle.gen1_player.specs.declared.public.Public.{Public}
 use Rattle.gen1_player.specs.declared.public_side.PublicSide.{PublicSide}
 use Rattle.gen1_player.specs.Public.{comes_out, first_public, hears_all, is_cleared, on_announced, on_out, public_side, set_volatile, settled, takes_in, takes_types}

@@ -32,8 +32,7 @@ use Rattle.gen1_machine.proofs.Keeps.{Keeps}
 use Rattle.gen1_machine.proofs.Sound.{party-valid, planned-holds}
 use Rattle.gen1_machine.proofs.SoundWalk.{confusion_test-sound, disabled_test-sound, gate_of_status-sound, gate_of_turn-sound, paralysis_test-sound}
 use Rattle.gen1_machine.proofs.Acts.{quiet-sound, Quiet}
-use Rattle.gen1_machine.proofs.Showing.{BothOut}
-use Rattle.gen1_machine.proofs.Watching.{before-leads, given-tells, if-sees, stay-tells, stop-leads, ◌⊳◌, Lands, Leads, Rests, Runs}
+use Rattle.gen1_machine.proofs.Watching.{BothOut, before-leads, given-tells, if-sees, stay-tells, stop-leads, ◌⊳◌, Lands, Leads, Rests, Runs}
 use Rattle.gen1_player.specs.declared.public.Public.{Public}
 use Rattle.gen1_player.specs.declared.public_side.PublicSide.{PublicSide}
 use Rattle.gen1_player.specs.Public.{broken_off_if, ends_recharging, is_overtaken, on_out, on_seen, public_side, recharges_unless, settled_by, strikes, suffers_move, takes_damage, takes_in, uses_move}

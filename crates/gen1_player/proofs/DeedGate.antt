@@ -30,8 +30,7 @@ use Rattle.gen1_machine.specs.Damage.{before_types, divided}
 use Rattle.gen1_machine.specs.Landing.{land_on_hp, land_on_substitute, set_broke}
 use Rattle.gen1_machine.specs.HitOnItself.{hurt_itself, hurt_itself_by, land_on_foes_substitute}
 use Rattle.gen1_machine.specs.Gate.{cant, confusion_test, disable_count, disabled_test, flinch_test, frozen_test, gate_of_status, gate_of_turn, may_be_paralysed, may_hurt_itself, paralysis_test, recharge_test, sleep_on, sleep_test, trapped_test, wake}
-use Rattle.gen1_machine.proofs.Showing.{BothOut}
-use Rattle.gen1_machine.proofs.Watching.{after-leads, before-leads, choose-sees, choose-tells, given-tells, stay-tells, stop-leads, ◌⊳◌, Leads, Runs}
+use Rattle.gen1_machine.proofs.Watching.{BothOut, after-leads, before-leads, choose-sees, choose-tells, given-tells, stay-tells, stop-leads, ◌⊳◌, Leads, Runs}
 use Rattle.gen1_player.specs.declared.public.Public.{Public}
 use Rattle.gen1_player.specs.declared.public_side.PublicSide.{PublicSide}
 use Rattle.gen1_player.specs.Public.{acting, activates, first_public, broken_off_if, has_hit_itself, is_kept, on_out, on_public_side, on_seen, public_side, set_volatile, settled, settled_by, takes_damage, takes_in, waiting_for, on_announced}

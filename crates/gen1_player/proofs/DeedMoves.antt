@@ -31,8 +31,7 @@ use Rattle.gen1_machine.proofs.Keeps.{choose-keeps, given-keeps, on_active-keeps
 use Rattle.gen1_machine.proofs.Sound.{choose-sees}
 use Rattle.gen1_machine.proofs.SoundWalk.{see_if_going_on-sound}
 use Rattle.gen1_machine.proofs.Acts.{begin-quiet, quiet-sound, Quiet}
-use Rattle.gen1_machine.proofs.Showing.{BothOut}
-use Rattle.gen1_machine.proofs.Watching.{after-leads, before-leads, choose-tells, given-sees, given-tells, if-sees, stay-tells, stop-leads, ◌⊳◌, Lands, Leads, Rests, Runs}
+use Rattle.gen1_machine.proofs.Watching.{BothOut, after-leads, before-leads, choose-tells, given-sees, given-tells, if-sees, stay-tells, stop-leads, ◌⊳◌, Lands, Leads, Rests, Runs}
 use Rattle.gen1_machine.proofs.Watching as watching
 use Rattle.gen1_player.specs.declared.public.Public.{Public}
 use Rattle.gen1_player.specs.declared.public_side.PublicSide.{PublicSide}

@@ -27,13 +27,11 @@ use Rattle.gen1_machine.specs.Action.{keeps_going}
 use Rattle.gen1_machine.specs.Conditions.{Underway}
 use Rattle.gen1_machine.specs.Rules.{bit_of}
 use Rattle.gen1_machine.specs.Valid.{IsAsked, IsStarted, IsState, IsUnderway, IsUnstarted, StandsAs}
-use Rattle.gen1_machine.proofs.FirstStates.{first_states_are_valid}
+use Rattle.gen1_machine.proofs.ValidStates.{first_states_are_valid, states_stay_valid}
 use Rattle.gen1_machine.proofs.Fitting.{offered-fits}
 use Rattle.gen1_machine.proofs.RunsEnd.{offered-is}
 use Rattle.gen1_machine.proofs.ValidSteps.{opened-sure}
-use Rattle.gen1_machine.proofs.ValidStates.{states_stay_valid}
-use Rattle.gen1_machine.proofs.Showing.{IsOut}
-use Rattle.gen1_machine.proofs.Watching.{after-leads, before-leads, choose-tells, given-tells, stay-tells, ◌⊳◌, Lands, Leads, Rests, Runs}
+use Rattle.gen1_machine.proofs.Watching.{IsOut, after-leads, before-leads, choose-tells, given-tells, stay-tells, ◌⊳◌, Lands, Leads, Rests, Runs}
 use Rattle.gen1_machine.proofs.Watching as watching
 use Rattle.gen1_player.specs.declared.public_side.PublicSide.{PublicSide}
 use Rattle.gen1_player.specs.Public.{acting, hears_all, is_going_on, may_go_on, new_uses, settled_by}

@@ -19,7 +19,7 @@ use Rattle.gen1_machine.specs.Sides.{other}
 use Rattle.gen1_machine.specs.Conditions.{after_haze, with_bad_poison, with_recharge, without_seed, ActiveConditions}
 use Rattle.gen1_machine.specs.State.{Active, Field, Party, active_in, changed_active, changed_conditions, changed_member, fallen, party, who_in, with_party, with_status, with_types_of}
 use Rattle.gen1_machine.specs.EarlyEffects.{with_levelled_stats}
-use Rattle.gen1_machine.proofs.Showing.{BothOut}
+use Rattle.gen1_machine.proofs.Watching.{BothOut}
 use Rattle.gen1_player.specs.declared.public.Public.{Public}
 use Rattle.gen1_player.specs.declared.public_side.PublicSide.{PublicSide}
 use Rattle.gen1_player.specs.Public.{acting, first_public, gets_status, hears_all, is_afflicted, is_cleared, on_announced, on_out, on_seen, public_side, set_volatile, settled, settled_by, takes_in, takes_types}

@@ -38,15 +38,14 @@ use Rattle.gen1_machine.specs.Turn.{both_act, both_pick, both_switch, do_part, d
 use Rattle.gen1_machine.specs.Valid.{effect_of, IsUnderway}
 use Rattle.gen1_machine.specs.Plans.{with_plan, Any, Doing, FitsPick, InRange, IsPlanned, Plan, PlanOf, Plans}
 use Rattle.gen1_machine.proofs.Keeps.{on_conditions-keeps, Keeps}
-use Rattle.gen1_machine.proofs.Leads as steps
+use Rattle.gen1_machine.proofs.Keeps as steps
 use Rattle.gen1_machine.proofs.Tame.{without_flinch-tame}
 use Rattle.gen1_machine.proofs.Sound.{party-valid, planned-sound, replanned, with_plan-is}
 use Rattle.gen1_machine.proofs.SoundWalk.{conditions-spared}
 use Rattle.gen1_machine.proofs.Acts.{begin-keeps}
 use Rattle.gen1_machine.proofs.Fitting.{free-plain, Fits}
-use Rattle.gen1_machine.proofs.ValidTurns.{act_part, both-plan_of, both-planned, both_plan, send_part, set_picked-keeps, suffers_part, with_plan-other, Sure}
-use Rattle.gen1_machine.proofs.Showing.{keeps-member, BothOut}
-use Rattle.gen1_machine.proofs.Watching.{after-leads, before-leads, choose-sees, choose-tells, given-sees, given-tells, stay-tells, ◌⊳◌, Lands, Leads, Rests, Runs}
+use Rattle.gen1_machine.proofs.ValidSteps.{act_part, both-plan_of, both-planned, both_plan, send_part, set_picked-keeps, suffers_part, with_plan-other, Sure}
+use Rattle.gen1_machine.proofs.Watching.{keeps-member, BothOut, after-leads, before-leads, choose-sees, choose-tells, given-sees, given-tells, stay-tells, ◌⊳◌, Lands, Leads, Rests, Runs}
 use Rattle.gen1_machine.proofs.Watching as watching
 use Rattle.gen1_player.specs.declared.public.Public.{Public}
 use Rattle.gen1_player.specs.declared.public_side.PublicSide.{PublicSide}

@@ -24,7 +24,7 @@ use Rattle.gen1_machine.specs.Rules.{bit_of}
 use Rattle.gen1_machine.specs.Sides.{other}
 use Rattle.gen1_machine.specs.Conditions.{one_more, with_worse_poison, ActiveConditions}
 use Rattle.gen1_machine.specs.State.{changed_active, changed_conditions, changed_member, fallen, hurt_by, member_at, member_in, party, with_member, with_party, Active, Field, Party}
-use Rattle.gen1_machine.proofs.Showing.{member-after, BothOut, IsOut}
+use Rattle.gen1_machine.proofs.Watching.{member-after, BothOut, IsOut}
 use Rattle.gen1_player.specs.declared.public.Public.{Public}
 use Rattle.gen1_player.specs.declared.announced.Announced.{Announced}
 use Rattle.gen1_player.specs.declared.public_side.PublicSide.{PublicSide}

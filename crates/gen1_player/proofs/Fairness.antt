@@ -11,7 +11,7 @@ use Rattle.gen1_machine.specs.Rules.{Rules, bit_of, bits_of_rules}
 use Rattle.gen1_machine.specs.State.{Field, State, active_in, nobody_out, party, Active, Party, kind_of, member_at, member_in, not_sent_out, request_of}
 use Rattle.gen1_machine.specs.Valid.{IsMembersUnder, IsOutcome, IsStarted, IsUnstarted}
 use Rattle.gen1_layout.specs.Parts.{Parts}
-use Rattle.gen1_layout.specs.Within.{Packs, Setting, Stands, Within, setting_of}
+use Rattle.gen1_layout.specs.Shows.{Packs, Setting, Stands, Within, setting_of}
 use Rattle.gen1_layout.proofs.Storing.{within_of}
 use Rattle.gen1_player.specs.OwnSide.{own_conditions, own_member, is_present, no_member, shown_bits, own_active, own_side, OwnSide, plain_side}
 use Rattle.gen1_stats.specs.declared.known_move.KnownMove.{KnownMove}
@@ -26,10 +26,9 @@ use Rattle.gen1_machine.specs.Step.{events_of, step, run, run_by}
 use Rattle.gen1_player.specs.Fair.{Fair, Given, HidesTheCounts, HidesTheFoe, Logging, OffersWhatIsShown, Played, begun, given, given_from, if_asleep, if_disabled, if_on, if_storing, offered_from, offered_in, offers, offers_for, own_team, sleeps_or_is_frozen, switches_from, uncounted, uncounted_active, uncounted_conditions, uncounted_member, uncounted_party, usable_slots_from, FairPlayer, all_logs, end_of, told_by}
 use Rattle.std.proofs.lemmas.List.{take_at}
 use Rattle.gen1_events.specs.declared.fault.LogFault.{LogFault}
-use Rattle.gen1_events.specs.Reader.{Breaks, IsPart, part, Reading}
-use Rattle.gen1_events.specs.Splits.{Splits}
+use Rattle.gen1_events.specs.Reader.{Breaks, IsPart, part, Reading, Splits}
 use Rattle.gen1_events.proofs.Readings.{one_split}
-use Rattle.gen1_spectator.proofs.Logs.{splits_more}
+use Rattle.gen1_spectator.proofs.Following.{splits_more}
 use Rattle.gen1_machine.specs.Numbers.{side_number}
 use Rattle.gen1_player.specs.declared.own.OwnSide.{OwnSide as PlainOwnSide}
 use Rattle.gen1_player.specs.declared.player.Player.{Player}

@@ -1,5 +1,3 @@
--- What an event makes public, by the side that it names.
-pub mod Hearing
 -- An event as a side learns it, the log bytes of one side, and what becomes of a value to which events are applied.
 pub mod Retellings
 -- Offered choices from what is shown, and what is not shown.

@@ -35,8 +35,7 @@ use Rattle.gen1_machine.specs.Action.{move_taken_in}
 use Rattle.gen1_machine.specs.Ruling.{ruling_of}
 use Rattle.gen1_machine.specs.Step.{run, Ran}
 use Rattle.gen1_machine.specs.SwitchingIn.{switch_event, with_sent_out}
-use Rattle.gen1_machine.proofs.Showing.{keeps-conditions, BothOut, IsOut}
-use Rattle.gen1_machine.proofs.Watching.{Lands, Rests, Runs}
+use Rattle.gen1_machine.proofs.Watching.{keeps-conditions, BothOut, IsOut, Lands, Rests, Runs}
 use Rattle.gen1_player.specs.declared.public.Public.{Public}
 use Rattle.gen1_player.specs.declared.public_side.PublicSide.{PublicSide}
 use Rattle.gen1_player.specs.Public.{begins, bide, comes_out, first_public, hears_all, new_uses, not_seen, on_announced, seen_at, on_out, prepares, public_side, settled, starts_bide, takes_in, uses_move}

@@ -3,7 +3,7 @@ use Rattle.gen1_machine.specs.declared.event.CantReason.{CantReason}
 use Rattle.gen1_stats.specs.declared.status.Status.{Status}
 use Rattle.gen1_stats.specs.declared.status.Status.TheVariants.{Asleep, Healthy}
 use Rattle.gen1_player.proofs.Stories.{slept}
-use Rattle.gen1_machine.proofs.Showing.{BothOut, IsOut}
+use Rattle.gen1_machine.proofs.Watching.{BothOut, IsOut}
 use Rattle.gen1_machine.specs.Sides.{other}
 use Rattle.gen1_machine.specs.State.{Active, Field, Party, changed_active, changed_member, member_at, member_in, party, who_in, with_member, with_status, with_sleep_one_less, one_turn_less_asleep}
 use Rattle.gen1_machine.specs.declared.event.Event.{Event}

@@ -1,6 +1,5 @@
 -- After any run the mark of the sleep clause is on those of whom the log tells that a move of the foe put them to sleep.
-use Rattle.gen1_machine.proofs.Showing.{BothOut, IsOut}
-use Rattle.gen1_machine.proofs.Watching.{Leads, Runs, after-leads, before-leads, choose-sees, choose-tells, given-sees, given-tells, if-sees, stay-tells, stop-leads, ◌⊳◌}
+use Rattle.gen1_machine.proofs.Watching.{BothOut, IsOut, Leads, Runs, after-leads, before-leads, choose-sees, choose-tells, given-sees, given-tells, if-sees, stay-tells, stop-leads, ◌⊳◌}
 use Rattle.gen1_machine.specs.Action.{accuracy_to_keep, act, action_parts, begin, carry_out, gate_or_held, keep_accuracy, lands_at_once, lead_up, lets_energy_go, move_taken_in, use_move}
 use Rattle.gen1_machine.specs.Conditions.{ActiveConditions, after_haze, with_bad_poison, with_bide, with_recharge, without_seed}
 use Rattle.gen1_machine.specs.EarlyEffects.{early_effect, heal, is_early, rest_up, with_levelled_stats}

@@ -14,7 +14,7 @@ use Rattle.gen1_machine.specs.declared.event.Event.{Event}
 use Rattle.gen1_machine.specs.declared.event.Event.TheVariants as events
 use Rattle.gen1_machine.specs.declared.side.Side.{Side}
 use Rattle.gen1_machine.specs.Numbers.{side_number}
-use Rattle.gen1_events.specs.Ranges.{IsEvent}
+use Rattle.gen1_events.specs.Fields.{IsEvent}
 use Rattle.gen1_player.specs.declared.hp_form.HpForm.{HpForm}
 use Rattle.gen1_player.specs.declared.hp_form.HpForm.TheVariants.{Bar, Exact, Hundredths}
 use Rattle.gen1_player.specs.declared.teller.Teller.{Teller}

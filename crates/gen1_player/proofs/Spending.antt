@@ -38,8 +38,7 @@ use Rattle.gen1_machine.proofs.Keeps.{choose-keeps, ends-keeps, given-keeps, las
 use Rattle.gen1_machine.proofs.Sound.{party-valid, planned-holds}
 use Rattle.gen1_machine.proofs.SoundWalk.{see_if_going_on-sound}
 use Rattle.gen1_machine.proofs.Acts.{begin-quiet, quiet-sound, Quiet}
-use Rattle.gen1_machine.proofs.Showing.{BothOut, IsOut}
-use Rattle.gen1_machine.proofs.Watching.{after-leads, before-leads, choose-sees, choose-tells, given-sees, given-tells, if-sees, seeing, stay-tells, stop-leads, ◌⊳◌, Lands, Leads, Rests, Runs}
+use Rattle.gen1_machine.proofs.Watching.{BothOut, IsOut, after-leads, before-leads, choose-sees, choose-tells, given-sees, given-tells, if-sees, seeing, stay-tells, stop-leads, ◌⊳◌, Lands, Leads, Rests, Runs}
 use Rattle.gen1_player.specs.declared.public.Public.{Public}
 use Rattle.gen1_player.specs.declared.public_side.PublicSide.{PublicSide}
 use Rattle.gen1_player.specs.declared.seen.Seen.{Seen}

@@ -24,7 +24,7 @@ use Rattle.gen1_machine.proofs.Sound.{planned-sound}
 use Rattle.gen1_machine.proofs.SoundWalk.{conditions-spared}
 use Rattle.gen1_machine.proofs.Acts.{begin-keeps}
 use Rattle.gen1_machine.proofs.Fitting.{offered-fits, Fits}
-use Rattle.gen1_machine.proofs.ValidTurns.{both-plan_of, both-planned, both_plan, send_part, set_picked-keeps, suffers_part, with_plan-other, Sure}
+use Rattle.gen1_machine.proofs.ValidSteps.{both-plan_of, both-planned, both_plan, send_part, set_picked-keeps, suffers_part, with_plan-other, Sure, opened-sure}
 use Rattle.gen1_machine.proofs.Watching.{after-leads, before-leads, choose-tells, given-tells, seeing, stay-tells, ◌⊳◌, Lands, Leads, Rests, Runs}
 use Rattle.gen1_player.specs.declared.seen.SeenMove.{SeenMove}
 use Rattle.gen1_player.proofs.Facts.{Sizes}
@@ -48,9 +48,8 @@ use Rattle.gen1_machine.specs.SwitchingIn.{replace, start}
 use Rattle.gen1_machine.specs.OfferedChoices.{offered_for}
 use Rattle.gen1_machine.specs.Step.{answered, events_of, is_among, offers, opened, run, run_by, step, step_by, update, update_for, Ran, Stepped}
 use Rattle.gen1_machine.specs.Valid.{IsState, IsTerms}
-use Rattle.gen1_machine.proofs.FirstStates.{first_states_are_valid}
+use Rattle.gen1_machine.proofs.ValidStates.{first_states_are_valid}
 use Rattle.gen1_machine.proofs.RunsEnd.{offered-is}
-use Rattle.gen1_machine.proofs.ValidSteps.{opened-sure}
 use Rattle.gen1_player.specs.Public.{hears_all, not_seen, not_used, public_side, seen_at}
 use Rattle.gen1_player.specs.True.{events_in, move_in, pp_in, public_of, rise, rises, UsesArePaid}
 use Rattle.gen1_player.proofs.Appearing.{face, no_face, Face}

@@ -27,8 +27,7 @@ use Rattle.gen1_machine.specs.State.{active_in, changed_active, changed_conditio
 use Rattle.gen1_machine.specs.CurrentStats.{with_penalty_of}
 use Rattle.gen1_machine.specs.Progress.{cure, stop, draw, draw_until, ends, fault, gain_hp, inflict, lasts, lose_hp, note, on_action, on_active, on_conditions, on_field, on_member, set_last_damage, starts, told, Action, Phase, Progress}
 use Rattle.gen1_machine.specs.SwitchingIn.{switch_event}
-use Rattle.gen1_machine.proofs.Showing.{keeps-active, keeps-member, BothOut}
-use Rattle.gen1_machine.proofs.Watching.{Lands, Leads, Rests, Runs, choose-tells, stay-tells, stop-leads, ◌⊳◌}
+use Rattle.gen1_machine.proofs.Watching.{keeps-active, keeps-member, BothOut, Lands, Leads, Rests, Runs, choose-tells, stay-tells, stop-leads, ◌⊳◌}
 use Rattle.gen1_player.proofs.Facts.{penalty-placid, still-is, Calm, Dull, Marks, Mild, Noise, Standing, Starts, Placid, Restful, SleepsOn, Sparing, IsAwake, is_telling, is_poison, is_sleep, is_still, restful-status, with_cleared, sent, Sizes}
 
 -- Stories

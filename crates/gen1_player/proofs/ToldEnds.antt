@@ -17,8 +17,7 @@ use Rattle.gen1_machine.specs.Ruling.{Ruling, ruling_of}
 use Rattle.gen1_machine.specs.SwitchingIn.{with_sent_out, send_out, send_if_chosen, replace, switch_event, start}
 use Rattle.gen1_machine.specs.TurnOrder.{toss, in_order_of_speed, in_order_of_rank, in_order}
 use Rattle.gen1_machine.specs.Turn.{Part, Sends, Acts, Suffers, do_part, is_cut, end_spent_trapping, end_turn, do_parts, both_act, set_picked, both_pick, switch_then_act, one_picks, both_switch, play_turn, turn}
-use Rattle.gen1_machine.proofs.Showing.{IsOut}
-use Rattle.gen1_machine.proofs.Watching.{seeing, Runs, Lands, Leads, after-leads, before-leads, ◌⊳◌, choose-tells, choose-sees, given-tells, stay-tells, Rests, stop-leads}
+use Rattle.gen1_machine.proofs.Watching.{IsOut, seeing, Runs, Lands, Leads, after-leads, before-leads, ◌⊳◌, choose-tells, choose-sees, given-tells, stay-tells, Rests, stop-leads}
 use Rattle.gen1_player.proofs.Facts.{sent-place, worse-mild, Fits, Sizes, sent, is_still}
 use Rattle.gen1_player.proofs.Stories.{Outline, Story, Switching, Sized, Begun, Now, MayFall, Tells, at_end, loosened, draw-tells, active-tells, any-loses, conditions-tells, gain-tells, mild-tells, Holds, May, begun-member, holds-noise, may-noise}
 use Rattle.gen1_player.proofs.ToldActions.{begin-tells}
@@ -30,9 +29,8 @@ use Rattle.std.proofs.lemmas.Bool.{false≢true}
 use Rattle.std.proofs.lemmas.List.{append-nil, append_assoc}
 use Rattle.gen1_machine.specs.OfferedChoices.{is_committed, moves_offered, offered, offered_for, switches_offered}
 use Rattle.gen1_stats.specs.Members.{IsTeam, Member}
-use Rattle.gen1_machine.proofs.Promised.{among-append, offered-moves}
+use Rattle.gen1_machine.proofs.Fitting.{among-append, offered-moves, offered-place}
 use Rattle.gen1_machine.proofs.Runs.{terms_stay}
-use Rattle.gen1_machine.proofs.Fitting.{offered-place}
 use Rattle.gen1_machine.specs.declared.event.DamageSource.TheVariants as sources
 use Rattle.gen1_machine.specs.declared.choice.Choice.TheVariants as choices
 use Rattle.gen1_machine.specs.declared.terms.Outcome.TheVariants as outcomes

@@ -29,8 +29,7 @@ use Rattle.gen1_player.specs.Public.{acting, activates, broken_off_if, comes_out
 use Rattle.gen1_player.specs.Telling.{appears, form_of, health_for, health_told, is_own, meets, meets_all, slot_of, told, told_all, told_in}
 use Rattle.gen1_player.specs.True.{as_known, events_in, first_teller, foe_as_told, foe_known, own_as_known, own_known, team_of, with_hp_told, PlayerHolds}
 use Rattle.gen1_player.proofs.Facts.{side_out}
-use Rattle.gen1_player.proofs.Hearing.{both, hears_named}
-use Rattle.gen1_player.proofs.HeardSides.{hears-in}
+use Rattle.gen1_player.proofs.HeardSides.{both, hears_named, hears-in}
 use Rattle.gen1_player.proofs.Slots.{Slot, crowded, find-slot, kept-slot, opened-each, opened-here, opened-kept, opened-none}
 use Rattle.gen1_player.proofs.Lenses.{not-zero, with_status_by, is-zero, is-some, taken, left, other-seen, out-eye, hears-eye, overhears-eye, damage-eye, heal-eye, stays, touches-out, hears-touches, overhears-touches, own-same, own-sees, own-touched, comes-is, comes-eye, own-comes, Tellable, AllTellable, eye, is_plain, Rises, TouchesTo, is_switch, own_lens, shown_as, Lens, Out, Sees, Touches, OwnKept}
 

@@ -11,7 +11,7 @@ use Rattle.gen1_machine.specs.Sides.{other}
 use Rattle.gen1_machine.specs.Conditions.{ActiveConditions}
 use Rattle.gen1_machine.specs.Layout.{disabled_slot, number_of_bits, outcome_byte, request_byte}
 use Rattle.gen1_machine.specs.State.{Active, Field, Stages, active_in, kind_of, member_in, party, request_of, underway_in, known_in}
-use Rattle.gen1_layout.specs.SentOut.{own_stats_of, stats_of}
+use Rattle.gen1_layout.specs.Shows.{own_stats_of, stats_of}
 use Rattle.gen1_tables.specs.Types.{number_of}
 use Rattle.gen1_machine.specs.LogBytes.{kind_or_0}
 use Rattle.gen1_machine.specs.Rules.{bit_of}

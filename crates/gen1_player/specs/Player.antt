@@ -6,8 +6,7 @@ use Rattle.gen1_machine.specs.declared.event.Event.{Event}
 use Rattle.gen1_machine.specs.declared.side.Side.{Side}
 use Rattle.gen1_machine.specs.Numbers.{side_number}
 use Rattle.gen1_machine.specs.Rules.{bits_of_rules}
-use Rattle.gen1_events.specs.Reader.{IsPart}
-use Rattle.gen1_events.specs.Splits.{Splits}
+use Rattle.gen1_events.specs.Reader.{IsPart, Splits}
 use Rattle.gen1_player.specs.declared.own.OwnSide.{OwnSide}
 use Rattle.gen1_player.specs.declared.own.OwnMember.{OwnMember}
 use Rattle.gen1_player.specs.declared.player.Player.{Player}

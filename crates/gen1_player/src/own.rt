@@ -1,7 +1,7 @@
 //! What a side is shown of itself after each update (docs/MECHANICS.md, "What a side is shown of itself").
 ghost use Rattle.std.specs.Prelude.{is_some, length, ◌≡◌, ◌≤◌};
 ghost use Rattle.gen1_layout.specs.Words.{Reads, ReadsPacked, active_in, conditions_in, member_at, member_in, party, underway_in};
-ghost use Rattle.gen1_layout.specs.Within.{Stands};
+ghost use Rattle.gen1_layout.specs.Shows.{Stands};
 ghost use Rattle.gen1_machine.specs.Layout.{number_of_bits};
 ghost use Rattle.gen1_machine.specs.LogBytes.{kind_or_0};
 ghost use Rattle.gen1_machine.specs.Rules.{bit_of};

@@ -43,7 +43,7 @@ impl Public {
     }
 
     /// Applies the next event. It takes any bytes: what an event does not name stays as it was.
-    #[tactic(auto, using(crate::proofs::Hearing::hears_by))]
+    #[tactic(auto, using(crate::proofs::HeardSides::hears_by))]
     pub fn apply(&mut self, event: &Event)
         ensures { self.new ≡ hears event.now self.old }
     {

@@ -26,16 +26,14 @@ use Rattle.gen1_machine.specs.Falls.{ask_for_moves, ask_for_switches, ask_nothin
 use Rattle.gen1_machine.specs.OfferedChoices.{offered, offered_for}
 use Rattle.gen1_machine.specs.Step.{answered, close_update, is_among, offers, opened, step, step_by, update, update_for}
 use Rattle.gen1_machine.specs.Valid.{IsStarted, IsState, IsUnstarted}
-use Rattle.gen1_machine.proofs.Keeps.{Keeps, Spares, choose-keeps, draw-keeps, given-keeps, keeps_rules, note-keeps, on_conditions-keeps, stay-keeps, then-keeps}
+use Rattle.gen1_machine.proofs.Keeps.{Keeps, Spares, choose-keeps, draw-keeps, given-keeps, keeps_rules, note-keeps, on_conditions-keeps, stay-keeps, then-keeps, Leads, choose-leads, given-leads, keeps-leads, leads-weaker, stay-leads, then-leads}
 use Rattle.gen1_machine.proofs.Free.{Free, begin-free, conditions-spared}
-use Rattle.gen1_machine.proofs.Leads.{Leads, choose-leads, given-leads, keeps-leads, leads-weaker, stay-leads, then-leads}
-use Rattle.gen1_machine.proofs.Bench.{Alike, Between, FreeParty, alike-free, alike-itself, between-free, between-weaker}
-use Rattle.gen1_machine.proofs.Turns.{Begins, begins-free, part-acts, part-suffers, parts-end, send_one, send_two, set_picked-free, suffers_acts-end, the_fallen_faint-free}
-use Rattle.gen1_machine.proofs.Promised.{offered-passes}
+use Rattle.gen1_machine.proofs.Turns.{Alike, Between, FreeParty, alike-free, alike-itself, between-free, between-weaker, Begins, begins-free, part-acts, part-suffers, parts-end, send_one, send_two, set_picked-free, suffers_acts-end, the_fallen_faint-free}
+use Rattle.gen1_machine.proofs.Fitting.{offered-passes}
 use Rattle.gen1_machine.proofs.RunsEnd.{offered-is, state-ready, Waits}
 use Rattle.gen1_switching.proofs.Stepped.{valid-after}
-use Rattle.gen1_offers.specs.Bench.{BothFollow, Follows, KeepsOut}
-use Rattle.gen1_offers.proofs.BetweenUpdates.{asks_nothing}
+use Rattle.gen1_offers.specs.OfferedMask.{BothFollow, Follows, KeepsOut}
+use Rattle.gen1_offers.proofs.OfferedSet.{asks_nothing}
 
 -- a party
 

@@ -1,7 +1,7 @@
 -- Battles played by random choices, and how they end (include/gen1.h, "many battles").
 use Rattle.std.specs.Prelude.{List, None, Option, Some, [], if◌then◌else◌, length, min, nat_lt, replicate, slice_index_or, suc, true, zero, ℕ, ◌%◌, ◌*◌, ◌++◌, ◌+◌, ◌/◌, ◌==◌, ◌^◌, ◌≡◌, ◌∷◌, ◌⊎◌}
 use Rattle.std.specs.List.{AllByRecursion}
-use Rattle.gen1_rolls.specs.Link.{ring_of}
+use Rattle.gen1_rolls.specs.Steady.{ring_of}
 use Rattle.gen1_rolls.specs.Streams.{iterate}
 use Rattle.gen1_machine.specs.declared.choice.Choice.{Choice}
 use Rattle.gen1_machine.specs.declared.choice.Choice.TheVariants.{Move, Pass}

@@ -1,7 +1,7 @@
 //! Which side is ahead in a battle that is not over (include/gen1.h, "many battles").
 ghost use Rattle.std.specs.Prelude.{◌≡◌, ◌≤◌};
 ghost use Rattle.gen1_machine.specs.State.{State};
-ghost use Rattle.gen1_layout.specs.Within.{Stands};
+ghost use Rattle.gen1_layout.specs.Shows.{Stands};
 ghost use Rattle.gen1_playouts.specs.Playouts.{hp_left, hp_unhurt, leader, leading};
 
 use gen1_layout::Packed;

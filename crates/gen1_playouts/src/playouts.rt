@@ -1,9 +1,8 @@
 //! Battles played by random choices, to their end or for a number of updates (include/gen1.h, "many battles").
 ghost use Rattle.std.specs.Prelude.{IfOk, IsOk, false, ◌+◌, ◌<◌, ◌≡◌};
 ghost use Rattle.gen1_machine.specs.State.{State, is_over};
-ghost use Rattle.gen1_layout.specs.Within.{Stands};
-ghost use Rattle.gen1_offers.specs.Bench.{IsBench, IsInRange};
-ghost use Rattle.gen1_offers.specs.OfferedMask.{offered_mask};
+ghost use Rattle.gen1_layout.specs.Shows.{Stands};
+ghost use Rattle.gen1_offers.specs.OfferedMask.{IsBench, IsInRange, offered_mask};
 ghost use Rattle.gen1_playouts.specs.Playouts.{EndsAs, IsDrawn, IsPlayedOut, IsRound, IsZeros, MayEndAs, PlaysOut, counting, drawn_from, end_in, most_updates, total};
 
 use crate::ahead::leader;

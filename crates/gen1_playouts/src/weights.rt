@@ -3,7 +3,7 @@ ghost use Rattle.std.specs.Prelude.{false, length, map, slice_index_or, ◌%◌,
 ghost use Rattle.gen1_machine.specs.declared.choice.Choice.{Choice};
 ghost use Rattle.gen1_machine.specs.declared.choice.Choice.TheVariants as choices;
 ghost use Rattle.gen1_machine.specs.State.{Field};
-ghost use Rattle.gen1_layout.specs.Within.{Setting, Within};
+ghost use Rattle.gen1_layout.specs.Shows.{Setting, Within};
 ghost use Rattle.gen1_offers.specs.OfferedMask.{all_choices, choices_in};
 ghost use Rattle.gen1_playouts.specs.Playouts.{IsDrawn, IsZeros, repeated, weight_in, weighted};
 

@@ -17,12 +17,11 @@ use Rattle.gen1_random.specs.declared.pools.Pool.{Pool}
 use Rattle.gen1_random.specs.declared.pools.Pool.TheVariants.{Moves, SampleSpecies, Samples, Species}
 use Rattle.gen1_random.specs.declared.sample_rows.TheConstants.{SAMPLE_ROWS}
 use Rattle.gen1_random.specs.declared.teams.DrawnFrom.{DrawnFrom}
-use Rattle.gen1_stats.specs.Teams.{first_refusal, member_refusal, team_refusal}
+use Rattle.gen1_stats.specs.Teams.{first_refusal, member_refusal, team_refusal, Sheet}
 use Rattle.gen1_tables.specs.Moves.{move_row, move_rows, struggle}
 use Rattle.std.proofs.lemmas.List.{length-append, length-map}
 use Rattle.gen1_playouts.specs.Playouts.{next_state}
 use Rattle.gen1_rolls.proofs.Standing.{iterate-more}
-use Rattle.gen1_stats.specs.Sheets.{Sheet}
 use Rattle.gen1_random.specs.declared.teams.DrawnFrom.TheVariants as from
 
 -- One more number.

@@ -10,8 +10,7 @@ use Rattle.gen1_rolls.specs.Streams.{iterate}
 use Rattle.gen1_random.specs.declared.teams.DrawnFrom.{DrawnFrom}
 use Rattle.gen1_stats.specs.declared.refusal.TeamRefusal.{TeamRefusal}
 use Rattle.gen1_stats.specs.declared.refusal.TeamRefusal.TheVariants.{Empty, TooMany}
-use Rattle.gen1_stats.specs.Sheets.{Sheet}
-use Rattle.gen1_stats.specs.Teams.{team_refusal}
+use Rattle.gen1_stats.specs.Teams.{Sheet, team_refusal}
 use Rattle.gen1_random.specs.declared.teams.DrawnFrom.TheVariants as from
 
 -- the species and the moves of a member of the sample teams, by its row from 1

@@ -1,14 +1,12 @@
 -- The place of a generator in a stream, after draws and searches.
-use Rattle.std.proofs.Common.{◌≡◌, ℕ, suc, ◌⊎◌, inl, inr, subst, ◌+◌, ◌<◌, ◌≤◌, Bool, IsFalse, Option, Some, None, IfNone, IfSome, refl, sym, ap, ◌∙◌, arith, true, false, nat_le, nat_lt, if◌then◌else◌}
+use Rattle.std.proofs.Common.{◌≡◌, ℕ, suc, ◌⊎◌, inl, inr, subst, ◌+◌, ◌<◌, ◌≤◌, Bool, IsFalse, Option, Some, None, IfNone, IfSome, refl, sym, ap, ◌∙◌, arith, true, false, nat_le, nat_lt, if◌then◌else◌, zero, ◌%◌}
 use Rattle.std.proofs.lemmas.Bool.Decides.{nat_tests}
 use Rattle.gen1_rolls.specs.declared.look.Look.{Look}
 use Rattle.gen1_rolls.specs.declared.look.Look.TheVariants.{Remainder}
 use Rattle.gen1_rolls.specs.Draws.{Drawing, Source, StandsIn, Finds, IsFound, IsMissed, Misses}
-use Rattle.gen1_rolls.specs.Looks.{sees}
-use Rattle.gen1_rolls.specs.Steady.{Generator, draws_of, stream_of, steady, FindsDraw, FindsNoDraw, StandsAt}
-use Rattle.gen1_rolls.specs.Streams.{iterate, Stream, byte_at, span, first, IsStream, HoldsEveryByte}
-use Rattle.gen1_rolls.proofs.First.{first-same, first_within-is, first_within-none}
-use Rattle.gen1_rolls.proofs.Period.{iterate-add, byte-small, every_byte}
+use Rattle.gen1_rolls.specs.Streams.{sees, iterate, Stream, byte_at, span, first, IsStream, HoldsEveryByte, Sweep}
+use Rattle.gen1_rolls.specs.Steady.{Generator, draws_of, stream_of, steady, FindsDraw, FindsNoDraw, StandsAt, one_up, sweep}
+use Rattle.gen1_rolls.proofs.First.{first-same, first_within-is, first_within-none, iterate-add, byte-small, every_byte}
 
 -- One more draw.
 pub iterate-more : {A : Type 0} (f : A → A) (n : ℕ) (x : A) → iterate (n + 1) f x ≡ f (iterate n f x)
@@ -188,3 +186,19 @@ pub full_from : {A : Type 0} (d : Generator A) (start now : A) (span n : ℕ) �
 full_from {A} d start now span n e before here =
     let P : A → Type 0 = λ x. HoldsEveryByte (draws_of d x) span in
     elim (none_or n) [ inl none ↦ subst P (e ∙ ap (λ k. iterate k d.next start) none) here | inr more ↦ before more ]
+
+-- The draws of a sweep.
+
+pub iterate-one_up : (k n : ℕ) → n < 256 → iterate k one_up n ≡ (n + k) % 256
+iterate-one_up zero n lt = omega arith
+iterate-one_up (suc k) n lt =
+    let e : ((n + k) % 256 + 1) % 256 ≡ (n + suc k) % 256 = omega arith in ap one_up (iterate-one_up k n lt) ∙ e
+
+-- A sweep is at the beginning of its stream.
+pub sweep_stands : (n : ℕ) → n < 256 → StandsAt sweep n (Sweep n) 0 n
+unfolding byte_at
+sweep_stands n lt = record { reached = refl; bytes = λ k. iterate-one_up k n lt; spans = refl }
+
+-- So its draws are a stream.
+pub sweep_is_stream : (n : ℕ) → n < 256 → IsStream (stream_of sweep n)
+sweep_is_stream n lt = own_is_stream (sweep_stands n lt) lt

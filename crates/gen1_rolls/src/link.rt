@@ -1,8 +1,7 @@
 //! The generator of a link battle (docs/MECHANICS.md, "Link numbers").
 ghost use Rattle.std.specs.Prelude.{◌≡◌, ◌<◌, ℕ, Bool, nat_lt, if◌then◌else◌, slice_index, length, IfSome, IfNone};
 ghost use Rattle.gen1_rolls.specs.Draws.{FindsAs, FindsNone, Settles, Steps};
-ghost use Rattle.gen1_rolls.specs.Steady.{steady, stream_of, FindsDraw, FindsNoDraw, StandsAt};
-ghost use Rattle.gen1_rolls.specs.Link.{FailsFrom, Ring, link, ring_of, turned};
+ghost use Rattle.gen1_rolls.specs.Steady.{steady, stream_of, FindsDraw, FindsNoDraw, StandsAt, FailsFrom, Ring, link, ring_of, turned};
 ghost use Rattle.gen1_rolls.specs.Streams.{IsFirstOf, IsStream, renewed, Link};
 
 use crate::look::{ByteTest, Look};
@@ -22,7 +21,7 @@ pub struct LinkRandom {
 
 impl Model for LinkRandom {
     ghost use Rattle.std.specs.Prelude.{◌<◌};
-    ghost use Rattle.gen1_rolls.specs.Link.{Ring};
+    ghost use Rattle.gen1_rolls.specs.Steady.{Ring};
 
     ghost Value = { Ring };
 

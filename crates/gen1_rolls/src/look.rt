@@ -1,6 +1,6 @@
 //! What is looked at of a drawn byte, and which bytes a search accepts (docs/MECHANICS.md, "Link numbers").
 ghost use Rattle.std.specs.Prelude.{◌*◌, ◌/◌, ◌≡◌};
-ghost use Rattle.gen1_rolls.specs.Looks.{alike, passes, rotated_left_3, rotated_right_1, sees};
+ghost use Rattle.gen1_rolls.specs.Streams.{alike, passes, rotated_left_3, rotated_right_1, sees};
 
 /// What is looked at of a drawn byte (docs/MECHANICS.md, "Link numbers").
 ///

@@ -1,7 +1,7 @@
 //! A generator of bytes, which all draws of a battle come from (docs/MECHANICS.md, "Link numbers").
 ghost use Rattle.std.specs.Prelude.{IfSome, IfNone};
 ghost use Rattle.gen1_rolls.specs.Draws.{Drawing, DrawsAs, DrawsByte, FindsAs, FindsNone, Steps};
-ghost use Rattle.gen1_rolls.specs.Looks.{passes};
+ghost use Rattle.gen1_rolls.specs.Streams.{passes};
 
 use crate::look::{ByteTest, Look};
 

@@ -1,7 +1,7 @@
 //! The first draw that passes a test (docs/MECHANICS.md, "Link numbers").
 ghost use Rattle.std.specs.Prelude.{IfSome, IfNone};
 ghost use Rattle.gen1_rolls.specs.Draws.{FindsByte, FindsNone, Steps};
-ghost use Rattle.gen1_rolls.specs.Looks.{passes};
+ghost use Rattle.gen1_rolls.specs.Streams.{passes};
 
 use crate::look::{ByteTest, Look};
 use crate::rolls::Rolls;

@@ -1,9 +1,8 @@
 //! Generators that note none of their draws (docs/MECHANICS.md, "Link numbers").
 ghost use Rattle.std.specs.Prelude.{◌≡◌, ℕ, ◌<◌, IfSome, IfNone};
 ghost use Rattle.gen1_rolls.specs.Draws.{DrawsByte, FindsAs, FindsNone, Steps};
-ghost use Rattle.gen1_rolls.specs.Looks.{passes};
+ghost use Rattle.gen1_rolls.specs.Streams.{passes, IsStream};
 ghost use Rattle.gen1_rolls.specs.Steady.{Generator, steady, stream_of};
-ghost use Rattle.gen1_rolls.specs.Streams.{IsStream};
 
 use crate::look::{ByteTest, Look};
 

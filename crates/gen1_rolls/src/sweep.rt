@@ -1,8 +1,7 @@
 //! A generator that counts up (docs/MECHANICS.md, "Link numbers").
 ghost use Rattle.std.specs.Prelude.{◌≡◌, ℕ};
-ghost use Rattle.gen1_rolls.specs.Steady.{steady, stream_of, StandsAt};
+ghost use Rattle.gen1_rolls.specs.Steady.{steady, stream_of, StandsAt, one_up, sweep};
 ghost use Rattle.gen1_rolls.specs.Streams.{IsStream, Sweep as SweepFrom};
-ghost use Rattle.gen1_rolls.specs.Sweep.{one_up, sweep};
 
 use crate::look::{ByteTest, Look};
 use crate::rolls::Rolls;

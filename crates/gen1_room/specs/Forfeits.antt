@@ -11,8 +11,8 @@ use Rattle.gen1_machine.specs.Choices.{choice_at}
 use Rattle.gen1_machine.specs.Numbers.{side_number}
 use Rattle.gen1_machine.specs.Room.{Course}
 use Rattle.gen1_machine.specs.Sides.{other}
-use Rattle.gen1_events.specs.Splits.{IsReading}
-use Rattle.gen1_layout.specs.Within.{Stands}
+use Rattle.gen1_events.specs.Reader.{IsReading}
+use Rattle.gen1_layout.specs.Shows.{Stands}
 use Rattle.gen1_engine.specs.declared.result.BattleResult.{BattleResult}
 use Rattle.gen1_room.specs.declared.plain.PlainRoom.{PlainRoom}
 use Rattle.gen1_room.specs.declared.reply.RoomRefusal.{RoomRefusal}

@@ -2,7 +2,5 @@
 pub mod Rooms
 -- Rooms that a side has forfeited.
 pub mod Forfeits
--- What replies reveal about choices.
-pub mod Blind
 -- The numbers of refusals.
 pub mod Refusals

@@ -1,19 +1,19 @@
 -- What a room holds and replies, in the machine's terms (docs/MECHANICS.md, "Rooms").
-use Rattle.std.specs.Prelude.{Bool, Err, List, None, Ok, Option, Result, Some, false, if◌then◌else◌, length, max, true, ℕ, ◌+◌, ◌-◌, ◌≡◌, ◌≤◌, ◌⊎◌, [], is_some, take}
-use Rattle.gen1_rolls.specs.Link.{Ring}
+use Rattle.std.specs.Prelude.{Bool, Err, List, None, Ok, Option, Result, Some, false, if◌then◌else◌, length, max, true, ℕ, ◌+◌, ◌-◌, ◌≡◌, ◌≤◌, ◌⊎◌, [], is_some, take, is_none, ◌++◌, ◌||◌, ◌∷◌}
+use Rattle.gen1_rolls.specs.Steady.{Ring}
 use Rattle.gen1_machine.specs.declared.side.Side.{Side}
 use Rattle.gen1_machine.specs.declared.side.Side.TheVariants.{One, Two}
 use Rattle.gen1_machine.specs.declared.choice.Choice.{Choice}
 use Rattle.gen1_machine.specs.declared.terms.Request.{Request}
 use Rattle.gen1_machine.specs.declared.terms.Request.TheVariants.{Switch}
 use Rattle.gen1_machine.specs.OfferedChoices.{others_living_from, offered}
-use Rattle.gen1_machine.specs.Room.{after, AlreadyChosen, Advanced, begun, choice_made, ChoiceNotOffered, chosen, Course, ended_by, Reply, reply_to, RoomOver, RoomRefusal, Stale, Submission, TurnedAway, Waiting}
+use Rattle.gen1_machine.specs.Room.{after, AlreadyChosen, Advanced, begun, choice_made, ChoiceNotOffered, chosen, Course, ended_by, Reply, reply_to, RoomOver, RoomRefusal, Stale, Submission, TurnedAway, Waiting, advanced_to, course_of, replies_of}
 use Rattle.gen1_machine.specs.State.{active_in, Field, is_over, party, State}
 use Rattle.gen1_machine.specs.Step.{events_of}
 use Rattle.gen1_machine.specs.Valid.{StandsAs}
-use Rattle.gen1_events.specs.Splits.{IsReading}
+use Rattle.gen1_events.specs.Reader.{IsReading}
 use Rattle.gen1_layout.specs.Parts.{Parts}
-use Rattle.gen1_layout.specs.Within.{Stands}
+use Rattle.gen1_layout.specs.Shows.{Stands}
 use Rattle.gen1_engine.specs.Reseed.{reseeded}
 use Rattle.gen1_engine.specs.Update.{AreOffered}
 use Rattle.gen1_room.specs.declared.held.Held.{Held}
@@ -147,3 +147,20 @@ pub record IsMarked (r : PlainRoom) : Type 0 where
 -- what a side may submit: nothing if its choice is there
 abbrev pub due : Side → Course → List Choice
 due side c = if is_some (chosen side c) then [] else offered side c.state.field
+
+-- What the replies of a room reveal about choices (docs/MECHANICS.md, "Rooms").
+
+-- Take two offered choices that a side might submit for the current pair. The replies to both are the same, and so are the replies
+-- to all later submissions of either side, until the pair has ended.
+abbrev pub RepliesHideChoices : Type 0
+RepliesHideChoices = (c : Course) (before more : List Submission) (side : Side) (x y : ℕ)
+    → let d : Course = course_of c before in
+    is_some (choice_made side d (submission_of side d.number x)) ≡ true → is_some (choice_made side d (submission_of side d.number y)) ≡ true
+    → (course_of c (before ++ submission_of side d.number x ∷ more)).number ≡ d.number
+    → replies_of c (before ++ submission_of side d.number x ∷ more) ≡ replies_of c (before ++ submission_of side d.number y ∷ more)
+
+-- the reply to the submission that ends a pair is the result of the battle at that point
+abbrev pub PairsAreAnswered : Type 0
+PairsAreAnswered = (c : Course) (x : Submission)
+    → is_over c.state.field.outcome ≡ false → (is_none (chosen One c) || is_none (chosen Two c)) ≡ true
+    → (after c x).number ≡ c.number + 1 → reply_to c x ≡ advanced_to (after c x).state

@@ -1,5 +1,5 @@
 //! What holds for all rooms (docs/MECHANICS.md, "Rooms"), as functions that do nothing.
-ghost use Rattle.gen1_room.specs.Blind.{PairsAreAnswered, RepliesHideChoices};
+ghost use Rattle.gen1_room.specs.Rooms.{PairsAreAnswered, RepliesHideChoices};
 
 /// Until a pair has ended, no reply depends on which of the offered choices a side has made for it.
 #[tactic(auto, using(crate::proofs::Blind::replies_hide_choices))]

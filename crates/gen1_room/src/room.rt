@@ -3,8 +3,8 @@ ghost use Rattle.std.specs.Prelude.{length, map, ◌≡◌};
 ghost use Rattle.std.specs.Result.{OnErr};
 ghost use Rattle.gen1_machine.specs.Room.{Course, course_of, replies_of, room_of};
 ghost use Rattle.gen1_machine.specs.State.{State};
-ghost use Rattle.gen1_events.specs.Splits.{IsReading};
-ghost use Rattle.gen1_layout.specs.Within.{Stands};
+ghost use Rattle.gen1_events.specs.Reader.{IsReading};
+ghost use Rattle.gen1_layout.specs.Shows.{Stands};
 ghost use Rattle.gen1_room.specs.Rooms.{Holds, IsRoom, Takes, reply_of, reseeded_in, submission_at, submission_of};
 
 use crate::held::Held;

@@ -3,8 +3,8 @@ ghost use Rattle.std.specs.Prelude.{None, Some, [], if◌then◌else◌, ◌==�
 ghost use Rattle.gen1_machine.specs.declared.choice.Choice.TheVariants.{Pass};
 ghost use Rattle.gen1_machine.specs.Room.{room_of};
 ghost use Rattle.gen1_machine.specs.State.{State, is_over, is_pass};
-ghost use Rattle.gen1_layout.specs.LoadingMeaning.{StandsForSome};
-ghost use Rattle.gen1_layout.specs.Within.{Stands};
+ghost use Rattle.gen1_layout.specs.LoadingLaws.{StandsForSome};
+ghost use Rattle.gen1_layout.specs.Shows.{Stands};
 ghost use Rattle.gen1_room.specs.Rooms.{Holds, IsRoom, Opens};
 
 use crate::held::Held;

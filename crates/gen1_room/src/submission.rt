@@ -3,7 +3,7 @@ ghost use Rattle.std.specs.Prelude.{None, Some, false, is_some, ◌+◌, ◌≡�
 ghost use Rattle.std.specs.Result.{OnErr};
 ghost use Rattle.gen1_machine.specs.Room.{Course, Submission, after, choice_by_byte, choice_made, chosen, reply_to_choice};
 ghost use Rattle.gen1_machine.specs.State.{is_over};
-ghost use Rattle.gen1_layout.specs.Within.{Stands};
+ghost use Rattle.gen1_layout.specs.Shows.{Stands};
 ghost use Rattle.gen1_engine.specs.Update.{AreOffered, result_of};
 ghost use Rattle.gen1_room.specs.Rooms.{Counts, EndsPair, Holds, IsRoom, MayChoose, Takes, chosen_in, ended, reply_of_submitted, submission_of};
 

@@ -3,8 +3,7 @@ use Rattle.std.proofs.lemmas.List.{append-nil}
 use Rattle.std.proofs.Common.{ap, append_assoc, sym, List, [], ◌++◌, ◌∙◌, ◌∷◌, ◌≡◌, ℕ}
 use Rattle.std.specs.Prelude.{codes}
 use Rattle.gen1_machine.specs.Lines.{joined}
-use Rattle.gen1_sentences.specs.Laws.{EachStops}
-use Rattle.gen1_sentences.specs.Sentences.{words}
+use Rattle.gen1_sentences.specs.Sentences.{EachStops, words}
 
 joined_last : (pieces : List (List ℕ)) (piece : List ℕ) → joined (pieces ++ piece ∷ []) ≡ joined pieces ++ piece
 joined_last [] piece = append-nil piece

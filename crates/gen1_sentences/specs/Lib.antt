@@ -1,4 +1,3 @@
 -- The sentence of an event, and what it needs of the events before.
-pub mod Laws
 pub mod Narrators
 pub mod Sentences

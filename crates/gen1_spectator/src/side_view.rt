@@ -3,8 +3,7 @@ ghost use Rattle.std.specs.Prelude.{None, false, length, map, ◌≡◌, ◌≤�
 ghost use Rattle.gen1_stats.specs.Members.{Member as Begun};
 ghost use Rattle.gen1_machine.specs.CurrentStats.{stage_of};
 ghost use Rattle.gen1_machine.specs.View.{cleared, first_side_view, if_out, not_shown, on_shown, sees_drop, sees_rise, sees_switch, sees_volatile, shown_at};
-ghost use Rattle.gen1_spectator.specs.Plain.{IsPlainSide, plain_side, shown_of, side_view_of};
-ghost use Rattle.gen1_spectator.specs.Sides.{member_shown, side_sees};
+ghost use Rattle.gen1_spectator.specs.Plain.{IsPlainSide, plain_side, shown_of, side_view_of, member_shown, side_sees};
 
 use crate::plain::{PlainMember, PlainSide, bit};
 use crate::shown::Shown;

@@ -12,10 +12,9 @@ use Rattle.gen1_machine.specs.Rules.{Rules}
 use Rattle.gen1_machine.specs.State.{State, active_in, kind_of, member_at as at_place, member_in, party}
 use Rattle.gen1_machine.specs.Valid.{IsStarted, IsStatus, IsStoring, IsUnstarted}
 use Rattle.gen1_layout.specs.Parts.{Parts, parts_of}
-use Rattle.gen1_layout.specs.Within.{Stands}
+use Rattle.gen1_layout.specs.Shows.{Stands}
 use Rattle.gen1_layout.proofs.Counts.{number_small}
-use Rattle.gen1_layout.proofs.Packing.{parts-bytes_of}
-use Rattle.gen1_layout.proofs.WaysBack.{hp_fits_at, limit_packs, members_in, now_fits, stats_fit_at, status_ok_at, turn_packs}
+use Rattle.gen1_layout.proofs.WaysBack.{parts-bytes_of, hp_fits_at, limit_packs, members_in, now_fits, stats_fit_at, status_ok_at, turn_packs}
 use Rattle.gen1_states.specs.Bytes.{active_bytes, bytes_of, header_bytes, member_bytes, side_after, status_byte}
 use Rattle.gen1_states.specs.Laws.{AreWords, ComesBack, IsPlainActive, IsPlainMember, IsPlainSide}
 use Rattle.gen1_states.specs.Plain.{first_side, member_at, no_member, no_side, second_side}
@@ -24,11 +23,8 @@ use Rattle.gen1_states.specs.declared.plain.ActiveState.{ActiveState}
 use Rattle.gen1_states.specs.declared.plain.BattleState.{BattleState}
 use Rattle.gen1_states.specs.declared.plain.MemberState.{MemberState}
 use Rattle.gen1_states.specs.declared.plain.SideState.{SideState}
-use Rattle.gen1_states.proofs.Between.{not_zero, packs_of}
-use Rattle.gen1_states.proofs.Fields.{active_equal, member_equal, two_same, word_same}
-use Rattle.gen1_states.proofs.Lists.{listed}
-use Rattle.gen1_states.proofs.There.{bytes_same}
-use Rattle.gen1_states.proofs.Viewed.{ring_numbers}
+use Rattle.gen1_states.proofs.There.{not_zero, packs_of, bytes_same, ring_numbers}
+use Rattle.gen1_states.proofs.Fields.{active_equal, member_equal, two_same, word_same, listed}
 
 -- The plain state of a battle fits the fields' types
 

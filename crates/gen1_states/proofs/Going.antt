@@ -5,22 +5,19 @@ use Rattle.gen1_machine.specs.declared.side.Side.{Side}
 use Rattle.gen1_machine.specs.declared.side.Side.TheVariants.{One, Two}
 use Rattle.gen1_machine.specs.State.{Field, State, active_in, member_in}
 use Rattle.gen1_machine.specs.Valid.{IsStarted, IsUnstarted}
-use Rattle.gen1_layout.specs.LoadingHeader.{version_three}
-use Rattle.gen1_layout.specs.LoadingMeaning.{IsBattle}
+use Rattle.gen1_layout.specs.Loading.{version_three}
+use Rattle.gen1_layout.specs.LoadingLaws.{IsBattle}
 use Rattle.gen1_layout.specs.Parts.{Parts, parts_of}
-use Rattle.gen1_layout.specs.Within.{Stands}
-use Rattle.gen1_layout.proofs.Packing.{parts-bytes_of}
-use Rattle.gen1_layout.proofs.WaysBack.{members_in}
+use Rattle.gen1_layout.specs.Shows.{Stands}
+use Rattle.gen1_layout.proofs.WaysBack.{parts-bytes_of, members_in}
 use Rattle.gen1_states.specs.Bytes.{bytes_of, side_after}
-use Rattle.gen1_states.specs.Completed.{are_left, completed, completed_side, computed_stats}
-use Rattle.gen1_states.specs.ActiveTests.{member_out}
+use Rattle.gen1_states.specs.Tests.{are_left, completed, completed_side, computed_stats, member_out}
 use Rattle.gen1_states.specs.Laws.{GoesBack}
 use Rattle.gen1_states.specs.Reading.{active_state, no_active, side_state, state_of}
 use Rattle.gen1_states.specs.declared.plain.ActiveState.{ActiveState}
 use Rattle.gen1_states.specs.declared.plain.BattleState.{BattleState}
 use Rattle.gen1_states.specs.declared.plain.SideState.{SideState}
-use Rattle.gen1_states.proofs.Between.{not_zero, packs_of}
-use Rattle.gen1_states.proofs.There.{bytes_same}
+use Rattle.gen1_states.proofs.There.{not_zero, packs_of, bytes_same}
 
 -- Nothing is left to be computed: a current Defense is at least 1
 

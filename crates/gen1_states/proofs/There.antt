@@ -1,23 +1,65 @@
 -- The bytes of a battle's plain state are the packing of its state.
-use Rattle.std.proofs.Common.{Bool, List, [], ap, append_assoc, arith, cond, flat_map, get_or, inl, inr, length, refl, replicate, suc, sym, zero, ℕ, ◌++◌, ◌==◌, ◌∙◌, ◌∷◌, ◌≡◌, ◌≤◌, ◌⊎◌}
+use Rattle.std.proofs.Common.{ap, length, sym, ◌≡◌, ℕ, List, slice_index, [], ◌∷◌, arith, inl, inr, false, ◌==◌, ◌⊎◌, Bool, append_assoc, cond, flat_map, get_or, refl, replicate, suc, zero, ◌++◌, ◌∙◌, ◌≤◌}
+use Rattle.gen1_rolls.specs.Steady.{ring_at}
+use Rattle.gen1_machine.specs.Layout.{header_block, number_at, active_block, active_block_of, member_block, member_blocks, party_bytes, bytes_of as packing}
+use Rattle.gen1_machine.specs.State.{State, Active, Field, active_in, member_at, member_in, nobody_out, party}
+use Rattle.gen1_layout.specs.Parts.{Parts}
+use Rattle.gen1_layout.specs.Shows.{Stands, Packs, Within, setting_of}
+use Rattle.gen1_layout.proofs.WaysBack.{numbers_are, members_in, status_ok_at}
+use Rattle.gen1_states.specs.Reading.{state_of, active_now, active_state, member_state, no_active, side_state}
+use Rattle.std.proofs.lemmas.Bool.Decides.{nat_tests}
+use Rattle.gen1_machine.specs.Valid.{IsStarted, IsUnstarted, IsStatus}
+use Rattle.gen1_layout.proofs.Steps.{packed_of}
+use Rattle.gen1_layout.proofs.Storing.{packed_at, within_of}
 use Rattle.std.proofs.lemmas.List.{append-nil}
 use Rattle.gen1_stats.specs.Members.{nobody, Member}
 use Rattle.gen1_stats.specs.declared.status.Status.{Status}
 use Rattle.gen1_stats.specs.declared.status.Status.TheVariants.{Asleep, Burned, Frozen, Healthy, Paralysed, Poisoned}
 use Rattle.gen1_machine.specs.declared.side.Side.{Side}
 use Rattle.gen1_machine.specs.declared.side.Side.TheVariants.{One, Two}
-use Rattle.gen1_machine.specs.Layout.{active_block, active_block_of, header_block, member_block, member_blocks, party_bytes}
-use Rattle.gen1_machine.specs.Layout.{bytes_of as packing}
 use Rattle.gen1_machine.specs.Rules.{Rules}
-use Rattle.gen1_machine.specs.State.{Active, Field, State, active_in, member_at, member_in, nobody_out, party}
-use Rattle.gen1_machine.specs.Valid.{IsStarted, IsStatus, IsUnstarted}
-use Rattle.gen1_layout.specs.Parts.{Parts}
-use Rattle.gen1_layout.specs.Within.{Stands}
-use Rattle.gen1_layout.proofs.WaysBack.{members_in, status_ok_at}
 use Rattle.gen1_states.specs.Bytes.{active_bytes, bytes_of, header_bytes, member_bytes, side_after}
-use Rattle.gen1_states.specs.Reading.{active_now, active_state, member_state, no_active, side_state, state_of}
-use Rattle.gen1_states.proofs.Between.{not_zero, packs_of}
-use Rattle.gen1_states.proofs.Viewed.{viewed}
+
+-- The bytes of the header are those of the state: its numbers are the ring's.
+
+-- the header of a battle that represents a state
+pub header_of : {p : Parts} {s : State} → Stands p s → p.header ≡ header_block s
+header_of h = ap (λ (q : Parts). q.header) h.same
+
+-- the numbers in use, and the tenth
+pub ring_numbers : (s : State) → length s.seed ≡ 10 → (ring_at s.seed s.drawn).numbers
+    ≡ number_at s.seed s.drawn 0 ∷ number_at s.seed s.drawn 1 ∷ number_at s.seed s.drawn 2 ∷ number_at s.seed s.drawn 3
+    ∷ number_at s.seed s.drawn 4 ∷ number_at s.seed s.drawn 5 ∷ number_at s.seed s.drawn 6 ∷ number_at s.seed s.drawn 7
+    ∷ number_at s.seed s.drawn 8 ∷ slice_index s.seed 9 ∷ []
+ring_numbers s ten = numbers_are s.seed s.drawn ten
+
+-- the state as it is written out, with those numbers
+pub viewed : (s : State) → length s.seed ≡ 10 → record (state_of s) {
+  numbers = number_at s.seed s.drawn 0 ∷ number_at s.seed s.drawn 1 ∷ number_at s.seed s.drawn 2 ∷ number_at s.seed s.drawn 3
+      ∷ number_at s.seed s.drawn 4 ∷ number_at s.seed s.drawn 5 ∷ number_at s.seed s.drawn 6 ∷ number_at s.seed s.drawn 7
+      ∷ number_at s.seed s.drawn 8 ∷ slice_index s.seed 9 ∷ [];
+} ≡ state_of s
+viewed s ten = ap (λ (numbers : List ℕ). record (state_of s) { numbers = numbers }) (sym (ring_numbers s ten))
+
+-- What is read of a battle between two updates, also before the first one.
+
+pub packs_of : {p : Parts} {s : State} → Stands p s → Packs (setting_of s) p s.field
+packs_of {p = p} {s = s} h = by h.valid.field
+  where
+    by : IsUnstarted s.terms s.field ⊎ IsStarted s.terms s.field → Packs (setting_of s) p s.field
+    by (inl u) = packed_at p s h u
+    by (inr v) = packed_of (within_of p s h v.field)
+
+-- From turn 1 on both sides have an active member.
+pub within_out : {p : Parts} {s : State} → Stands p s → (s.field.turn ≡ 0 → ⊥) → Within (setting_of s) p s.field
+within_out {p = p} {s = s} h out = by h.valid.field
+  where
+    by : IsUnstarted s.terms s.field ⊎ IsStarted s.terms s.field → Within (setting_of s) p s.field
+    by (inl u) = absurd (out u.turn)
+    by (inr v) = within_of p s h v.field
+
+pub not_zero : (n : ℕ) → (n ≡ 0 → ⊥) → (n == 0) ≡ false
+not_zero n apart = grind (arith, nat_tests)
 
 -- A member
 

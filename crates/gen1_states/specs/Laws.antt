@@ -1,15 +1,15 @@
 -- What holds for all plain states (docs/LAYOUT.md, "Plain states").
 use Rattle.std.specs.Prelude.{List, length, slice_index, ℕ, ◌<◌, ◌≡◌}
 use Rattle.gen1_machine.specs.State.{State}
-use Rattle.gen1_layout.specs.LoadingMeaning.{IsBattle}
+use Rattle.gen1_layout.specs.LoadingLaws.{IsBattle}
 use Rattle.gen1_layout.specs.Parts.{parts_of, Parts}
-use Rattle.gen1_layout.specs.Within.{Stands}
+use Rattle.gen1_layout.specs.Shows.{Stands}
 use Rattle.gen1_states.specs.declared.plain.ActiveState.{ActiveState}
 use Rattle.gen1_states.specs.declared.plain.BattleState.{BattleState}
 use Rattle.gen1_states.specs.declared.plain.MemberState.{MemberState}
 use Rattle.gen1_states.specs.declared.plain.SideState.{SideState}
 use Rattle.gen1_states.specs.Bytes.{bytes_of}
-use Rattle.gen1_states.specs.Completed.{completed}
+use Rattle.gen1_states.specs.Tests.{completed}
 use Rattle.gen1_states.specs.Plain.{first_side, member_at, second_side}
 use Rattle.gen1_states.specs.Reading.{state_of}
 

@@ -2,7 +2,7 @@
 use Rattle.std.specs.Prelude.{All, List, [], if◌then◌else◌, replicate, slice_index, unwrap_or, ℕ, ◌==◌, ◌≡◌, ◌≤◌, ◌∷◌}
 use Rattle.gen1_tables.specs.declared.effect.Stat.TheVariants.{Attack, Defense, Special, Speed}
 use Rattle.gen1_tables.specs.Types.{number_of}
-use Rattle.gen1_rolls.specs.Link.{ring_at}
+use Rattle.gen1_rolls.specs.Steady.{ring_at}
 use Rattle.gen1_stats.specs.Members.{Member, is_marked}
 use Rattle.gen1_stats.specs.declared.status.Status.{Status}
 use Rattle.gen1_stats.specs.declared.status.Status.TheVariants.{Asleep}
@@ -13,7 +13,7 @@ use Rattle.gen1_machine.specs.Layout.{conditions_number, disabled_slot, disabled
 use Rattle.gen1_machine.specs.LogBytes.{kind_or_0}
 use Rattle.gen1_machine.specs.Rules.{bit_of, bits_of_rules}
 use Rattle.gen1_machine.specs.State.{Active, Field, State, active_in, kind_of, known_in, member_at, member_in, party}
-use Rattle.gen1_layout.specs.SentOut.{own_stats_of}
+use Rattle.gen1_layout.specs.Shows.{own_stats_of}
 use Rattle.gen1_states.specs.declared.plain.ActiveState.{ActiveState}
 use Rattle.gen1_states.specs.declared.plain.BattleState.{BattleState}
 use Rattle.gen1_states.specs.declared.plain.MemberState.{MemberState}

@@ -2,7 +2,7 @@
 //! At turn 0 no member is out, and all fields are 0.
 ghost use Rattle.std.specs.Prelude.{◌<◌, ◌≡◌, ◌≤◌};
 ghost use Rattle.gen1_states.specs.Faults.{within};
-ghost use Rattle.gen1_states.specs.ActiveTests.{count_tests, current_effect, fixed_tests, has, member_out, members_in, moves_in, place_test, progress_tests, stage_tests, tested_active, tested_block, tied_test, tied_tests, used_test, used_tests};
+ghost use Rattle.gen1_states.specs.Tests.{count_tests, current_effect, fixed_tests, has, member_out, members_in, moves_in, place_test, progress_tests, stage_tests, tested_active, tested_block, tied_test, tied_tests, used_test, used_tests};
 
 use crate::fault::{StateFault, StateField, Test, at, first_of, on, ruled, within};
 use crate::member_tests::is_there;
@@ -37,7 +37,7 @@ pub(crate) fn test_active(side: &SideState, number: u8, begun: bool) -> Result<(
     at(number, 0, test_block(side, begun))
 }
 
-#[tactic(auto, unfolding(crate::specs::ActiveTests::tested_block))]
+#[tactic(auto, unfolding(crate::specs::Tests::tested_block))]
 fn test_block(side: &SideState, begun: bool) -> Result<(), Test>
     ensures { result ≡ tested_block side.now begun }
 {

@@ -1,15 +1,15 @@
 //! The tests of a side's members (docs/LAYOUT.md, "Member"). A place whose species is 0 has no member, and all its
 //! fields are 0.
 ghost use Rattle.std.specs.Prelude.{◌≡◌};
-ghost use Rattle.gen1_states.specs.MemberTests.{is_fourth, is_there, is_third, move_test, move_tests, number_tests, own_stat_test, own_stat_tests, pp_test, pp_tests, status_tests, tested_member, tested_members, tested_next};
-ghost use Rattle.gen1_layout.specs.LoadingMember.{may_be_known};
+ghost use Rattle.gen1_states.specs.Tests.{is_fourth, is_there, is_third, move_test, move_tests, number_tests, own_stat_test, own_stat_tests, pp_test, pp_tests, status_tests, tested_member, tested_members, tested_next};
+ghost use Rattle.gen1_layout.specs.Loading.{may_be_known};
 
 use crate::fault::{StateFault, StateField, Test, at, first_of, on, ruled, within};
 use crate::plain::{MemberState, SideState, member_at};
 use gen1_tables::{Effect, MoveId};
 
 /// The first field of a side's members that is wrong.
-#[tactic(auto, unfolding(crate::specs::MemberTests::tested_members))]
+#[tactic(auto, unfolding(crate::specs::Tests::tested_members))]
 pub(crate) fn test_members(side: &SideState, number: u8, rules: u8) -> Result<(), StateFault>
     ensures { result ≡ tested_members side.now number rules }
 {
@@ -49,7 +49,7 @@ fn test_next(before: &MemberState, member: &MemberState, rules: u8) -> Result<()
 }
 
 // The first field of a member that is wrong, if its species may be from one number to another.
-#[tactic(auto, unfolding(crate::specs::MemberTests::tested_member))]
+#[tactic(auto, unfolding(crate::specs::Tests::tested_member))]
 fn test_member(member: &MemberState, least: u32, most: u32, rules: u8) -> Result<(), Test>
     ensures { result ≡ tested_member member.now least most rules }
 {

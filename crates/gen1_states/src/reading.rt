@@ -4,7 +4,7 @@ ghost use Rattle.gen1_layout.specs.Words.{Reads, ReadsPacked, active_in, member_
 ghost use Rattle.gen1_stats.specs.declared.status.Status.{Status};
 ghost use Rattle.gen1_machine.specs.LogBytes.{kind_or_0};
 ghost use Rattle.gen1_machine.specs.State.{State, kind_of};
-ghost use Rattle.gen1_layout.specs.Within.{Stands};
+ghost use Rattle.gen1_layout.specs.Shows.{Stands};
 ghost use Rattle.gen1_states.specs.Reading.{HasKinds, IsCopied, active_now, active_state, member_state, no_active, side_state, sleep_of, state_of};
 
 use crate::plain::{ActiveState, BattleState, MemberState, SideState};

@@ -1,13 +1,13 @@
 //! The tests of turn, outcome, requests and living members together (docs/LAYOUT.md, "Turn, outcome and requests").
 ghost use Rattle.std.specs.Prelude.{◌≡◌};
-ghost use Rattle.gen1_states.specs.RequestTests.{any_lives, first_test, lives, outcome_fits, outcome_test, request_test, requests_due, tested_requests, turn_test};
+ghost use Rattle.gen1_states.specs.Tests.{any_lives, first_test, lives, outcome_fits, outcome_test, request_test, requests_due, tested_requests, turn_test};
 
 use crate::active_tests::member_out;
 use crate::fault::{StateFault, StateField, Test, at, first_of, on, ruled, within};
 use crate::plain::{BattleState, MemberState, SideState, first_side, member_at, second_side};
 
 /// The first of outcome, requests, turn and the first members' HP that does not fit.
-#[tactic(auto, unfolding(crate::specs::RequestTests::tested_requests))]
+#[tactic(auto, unfolding(crate::specs::Tests::tested_requests))]
 pub(crate) fn test_requests(state: &BattleState) -> Result<(), StateFault>
     ensures { result ≡ tested_requests state.now }
 {

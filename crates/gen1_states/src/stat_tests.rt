@@ -1,6 +1,6 @@
 //! The tests of the current stats (docs/LAYOUT.md, "Current stats").
 ghost use Rattle.std.specs.Prelude.{◌≡◌, ◌<◌};
-ghost use Rattle.gen1_states.specs.StatTests.{comes_from, fixed_test, penalty_test, stat_tests, tested_stats};
+ghost use Rattle.gen1_states.specs.Tests.{comes_from, fixed_test, penalty_test, stat_tests, tested_stats};
 
 use crate::active_tests::member_out;
 use crate::fault::{StateFault, StateField, Test, at, first_of, on, ruled, within};
@@ -67,7 +67,7 @@ fn penalty_test(index: u8, stat: u16, whole: u16, begun: bool, comes: bool) -> T
 }
 
 // Whether a number becomes another one when it is divided at most this many times, each time to at least 1.
-#[tactic(auto, unfolding(crate::specs::StatTests::comes_from))]
+#[tactic(auto, unfolding(crate::specs::Tests::comes_from))]
 fn comes_from(whole: u16, divisor: u16, stat: u16, most: u8) -> bool
     requires { 0 < divisor }
     ensures { result ≡ comes_from whole divisor stat most }

@@ -1,7 +1,7 @@
 //! Current stats that are left to be computed: all four are 0 (docs/MECHANICS.md, "Stages", "Penalties").
 ghost use Rattle.std.specs.Prelude.{min, ◌≡◌, ◌≤◌};
 ghost use Rattle.gen1_machine.specs.Stages.{now_at};
-ghost use Rattle.gen1_states.specs.Completed.{are_left, completed, completed_side, computed_stats};
+ghost use Rattle.gen1_states.specs.Tests.{are_left, completed, completed_side, computed_stats};
 
 use crate::active_tests::member_out;
 use crate::plain::{ActiveState, BattleState, MemberState, SideState, first_side, second_side};
@@ -30,7 +30,7 @@ pub fn completed(state: &BattleState) -> BattleState
     }
 }
 
-#[tactic(auto, unfolding(crate::specs::Completed::completed_side))]
+#[tactic(auto, unfolding(crate::specs::Tests::completed_side))]
 fn completed_side(side: &SideState) -> SideState
     ensures { result ≡ completed_side side.now }
 {

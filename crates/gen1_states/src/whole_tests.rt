@@ -1,6 +1,6 @@
 //! The first field of a plain state that is wrong, in the order in which loading tests the bytes (docs/LAYOUT.md, "Plain states").
 ghost use Rattle.std.specs.Prelude.{◌≡◌};
-ghost use Rattle.gen1_states.specs.WholeTests.{fault_of, tested, unnamed};
+ghost use Rattle.gen1_states.specs.Tests.{fault_of, tested, unnamed};
 
 use crate::active_tests::test_active;
 use crate::fault::{StateFault, StateField};
@@ -12,7 +12,7 @@ use crate::stat_tests::test_stats;
 
 /// The first field of a state that is wrong: of the whole battle, of the members, of the active members, of their
 /// current stats, then of turn, outcome and requests together.
-#[tactic(auto, unfolding(crate::specs::WholeTests::tested))]
+#[tactic(auto, unfolding(crate::specs::Tests::tested))]
 pub(crate) fn test_state(state: &BattleState) -> Result<(), StateFault>
     ensures { result ≡ tested state.now }
 {

@@ -1,10 +1,9 @@
 //! A battle of a plain state.
 ghost use Rattle.std.specs.Prelude.{◌≡◌, ◌↔◌, IfErr, IfOk, IsOk};
-ghost use Rattle.gen1_layout.specs.LoadingMeaning.{IsBattle, StandsForSome};
+ghost use Rattle.gen1_layout.specs.LoadingLaws.{IsBattle, StandsForSome};
 ghost use Rattle.gen1_layout.specs.Parts.{parts_of};
 ghost use Rattle.gen1_states.specs.Bytes.{bytes_of};
-ghost use Rattle.gen1_states.specs.Completed.{completed};
-ghost use Rattle.gen1_states.specs.WholeTests.{fault_of};
+ghost use Rattle.gen1_states.specs.Tests.{completed, fault_of};
 
 use crate::bytes::bytes_of;
 use crate::fault::StateFault;

@@ -1,5 +1,3 @@
 -- Lemmas about the ranges of stats, about roots, and about lists of members.
-pub mod Joining
-pub mod Lists
 pub mod Ranges
 pub mod Roots

@@ -1,20 +1,42 @@
 -- A member that isn't refused is in the ranges of a member.
-use Rattle.std.proofs.Common.{All, AllPairs, Bool, List, None, Some, if◌then◌else◌, [], arith, false, length, map, min, nat_le, nat_lt, refl, slice_index_or, suc, true, zero, ℕ, ◌*◌, ◌-◌, ◌/◌, ◌≡◌, ◌≢◌, ◌≤◌, ◌∷◌, ◌||◌, ◌==◌, sym}
+use Rattle.std.proofs.Common.{All, Bool, List, [], arith, false, length, map, sym, suc, take, zero, ap, get_or, ℕ, ◌<◌, ◌≡◌, ◌∷◌, ◌++◌, ◌+◌, ◌∙◌, AllPairs, None, Some, if◌then◌else◌, min, nat_le, nat_lt, refl, slice_index_or, true, ◌*◌, ◌-◌, ◌/◌, ◌≢◌, ◌≤◌, ◌||◌, ◌==◌, drop}
+use Rattle.std.proofs.lemmas.Bool.{or_parts, and_parts, eqb-false, leb-true, ltb-false}
+use Rattle.std.proofs.lemmas.List.{map-append, take_more, length-map, drop_more}
+use Rattle.std.proofs.lemmas.List.Elements.{All-append, All-map}
+use Rattle.std.specs.List.{list_any, list_all}
 use Rattle.std.proofs.lemmas.Bool.Decides.{nat_tests}
-use Rattle.std.proofs.lemmas.Bool.{and_parts, eqb-false, leb-true, ltb-false, or_parts}
-use Rattle.std.proofs.lemmas.List.Elements.{All-map}
-use Rattle.std.proofs.lemmas.List.{length-map}
 use Rattle.std.proofs.lemmas.Nat.{mul-le}
-use Rattle.std.specs.List.{list_all, list_any}
 use Rattle.gen1_tables.specs.Moves.{move_row, move_rows, struggle}
-use Rattle.gen1_stats.proofs.Lists.{none_passes, only}
 use Rattle.gen1_stats.specs.declared.known_move.KnownMove.{KnownMove}
 use Rattle.gen1_stats.specs.declared.refusal.TeamRefusal.{TeamRefusal}
 use Rattle.gen1_stats.specs.declared.refusal.TeamRefusal.TheVariants.{Empty}
 use Rattle.gen1_stats.specs.Members.{IsBetween, IsFresh, IsKnown, IsMember, is_left_out, least_member}
-use Rattle.gen1_stats.specs.Sheets.{Sheet}
+use Rattle.gen1_stats.specs.Teams.{Sheet, first_failed, known_of, member_of, member_refusal, repeats, tests, first_refusal}
 use Rattle.gen1_stats.specs.Stats.{full_pp}
-use Rattle.gen1_stats.specs.Teams.{first_failed, known_of, member_of, member_refusal, repeats, tests}
+use Rattle.std.specs.Option.{option_or}
+
+-- What holds for each element of a list.
+
+-- If no element passes a test, each fails it.
+pub none_passes : {X : Type 0} (p : X → Bool) (xs : List X) → list_any p xs ≡ false → All (λ x. p x ≡ false) xs
+none_passes p [] none k d low = absurd (omega arith)
+none_passes p (x ∷ xs) none zero d low = (or_parts (p x) (list_any p xs) none).0
+none_passes p (x ∷ xs) none (suc k) d low = none_passes p xs (or_parts (p x) (list_any p xs) none).1 k d (omega arith)
+
+-- What holds for one element holds for each element of the list of that one.
+pub only : {X : Type 0} (P : X → Type 0) (x : X) → P x → All P (x ∷ [])
+only P x is zero d low = is
+only P x is (suc k) d low = absurd (omega arith)
+
+-- What holds for each element of a list and for one more holds for each after that one is added.
+pub All-push : {X : Type 0} (P : X → Type 0) (xs ys : List X) (x : X) → ys ≡ xs ++ x ∷ [] → All P xs → P x → All P ys
+All-push P xs ys x is all one = rw is (All-append P xs (x ∷ []) all (only P x one))
+
+-- One more element of a list, under a function.
+pub map-take_more : {X Y : Type 0} (f : X → Y) (xs : List X) (i : ℕ) (x : X) → i < length xs → x ≡ get_or xs i x
+    → map f (take (i + 1) xs) ≡ map f (take i xs) ++ f x ∷ []
+map-take_more f xs i x low is =
+    ap (map f) (take_more xs i x low) ∙ map-append f (take i xs) (get_or xs i x ∷ []) ∙ ap (λ y. map f (take i xs) ++ f y ∷ []) (sym is)
 
 -- No test of a member fails.
 pub record IsAllowed (s : Sheet) : Type 0 where
@@ -129,3 +151,13 @@ least_member-fresh = record {
   unhurt = refl;
   healthy = refl;
 }
+
+-- A member that isn't refused joins the team.
+
+-- If a member isn't refused, the first refusal is that of the members after it.
+pub first_refusal-drop : (sheets : List Sheet) (i : ℕ) (s : Sheet) → i < length sheets → s ≡ get_or sheets i s
+    → member_refusal (i + 1) s ≡ None
+    → first_refusal (i + 1) (drop i sheets) ≡ first_refusal (i + 1 + 1) (drop (i + 1) sheets)
+first_refusal-drop sheets i s low is none =
+    ap (first_refusal (i + 1)) (drop_more sheets i s low ∙ ap (λ first. first ∷ drop (i + 1) sheets) (sym is))
+    ∙ ap (λ refusal. option_or refusal (first_refusal (i + 1 + 1) (drop (i + 1) sheets))) none

@@ -6,6 +6,7 @@ use Rattle.gen1_tables.specs.Moves.{move_row, struggle}
 use Rattle.gen1_stats.specs.declared.known_move.KnownMove.{KnownMove}
 use Rattle.gen1_stats.specs.declared.status.Status.{Status}
 use Rattle.gen1_stats.specs.declared.status.Status.TheVariants.{Asleep, Frozen, Healthy, Paralysed}
+use Rattle.gen1_stats.specs.declared.member.Member.TheInside.{Inside}
 
 pub record Member : Type 0 where
   pub species : ℕ
@@ -111,3 +112,23 @@ sleeps_or_freezes status = is_asleep status || is_frozen status
 abbrev pub is_paralysed : Status → Bool
 is_paralysed Paralysed = true
 is_paralysed _ = false
+
+-- The machine's member for a `Member` of the code (docs/MECHANICS.md, "Teams"): a member at the beginning of a
+-- battle, unhurt and healthy.
+
+abbrev pub begun : Inside → Member
+begun m = record {
+  species = m.species;
+  level = m.level;
+  max = m.max_hp;
+  hp = m.max_hp;
+  attack = m.attack;
+  defense = m.defense;
+  speed = m.speed;
+  special = m.special;
+  status = Healthy;
+  moves = m.moves.items;
+}
+
+abbrev pub IsBegun : Inside → Type 0
+IsBegun m = IsFresh (begun m)

@@ -1,6 +1,6 @@
 -- Members as they are specified, what they become, and why a list of members isn't a team (docs/MECHANICS.md,
 -- "Teams").
-use Rattle.std.specs.Prelude.{Bool, List, None, Option, Some, [], false, if◌then◌else◌, length, map, nat_lt, slice_index, ℕ, ◌+◌, ◌==◌, ◌||◌, ◌∷◌}
+use Rattle.std.specs.Prelude.{List, [], replicate, ℕ, Bool, None, Option, Some, false, if◌then◌else◌, length, map, nat_lt, slice_index, ◌+◌, ◌==◌, ◌||◌, ◌∷◌}
 use Rattle.std.specs.List.{list_any}
 use Rattle.std.specs.Option.{option_or}
 use Rattle.gen1_tables.specs.Moves.{move_row, struggle}
@@ -10,8 +10,21 @@ use Rattle.gen1_stats.specs.declared.refusal.TeamRefusal.{TeamRefusal}
 use Rattle.gen1_stats.specs.declared.refusal.TeamRefusal.TheVariants.{Dv, Empty, Level, MoveLeftOut, NoMove, PpUps, RepeatedMove, StruggleChosen, TooMany}
 use Rattle.gen1_stats.specs.declared.status.Status.TheVariants.{Healthy}
 use Rattle.gen1_stats.specs.Members.{Member, is_left_out}
-use Rattle.gen1_stats.specs.Sheets.{Sheet}
 use Rattle.gen1_stats.specs.Stats.{full_pp, hp_dv, hp_stat, stat}
+
+-- The specification of a member (docs/MECHANICS.md, "Teams").
+
+-- DVs of Attack, Defense, Speed and Special, experience of HP and of these four, and moves with their PP ups.
+pub record Sheet : Type 0 where
+  pub species : ℕ
+  pub level : ℕ
+  pub dvs : List ℕ
+  pub exp : List ℕ
+  pub moves : List (ℕ × ℕ)
+
+-- A sheet that no team accepts. It fills the unused places of a list of sheets.
+abbrev pub least_sheet : Sheet
+least_sheet = record { species = 1; level = 1; dvs = replicate 4 0; exp = replicate 5 0; moves = [] }
 
 -- A move with its PP at the beginning of a battle.
 abbrev pub known_of : ℕ × ℕ → KnownMove

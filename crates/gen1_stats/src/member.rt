@@ -30,7 +30,7 @@ impl Model for Member {
 
     ghost Value = { Begun };
 
-    ghost use Rattle.gen1_stats.specs.Begun.{IsBegun, begun};
+    ghost use Rattle.gen1_stats.specs.Members.{IsBegun, begun};
 
     ghost view = { begun };
 

@@ -24,7 +24,7 @@ pub struct MemberSpec {
 }
 
 impl Model for MemberSpec {
-    ghost use Rattle.gen1_stats.specs.Sheets.{Sheet};
+    ghost use Rattle.gen1_stats.specs.Teams.{Sheet};
 
     ghost Value = { Sheet };
 
@@ -46,7 +46,7 @@ impl Model for MemberSpec {
 }
 
 impl Default for MemberSpec {
-    ghost use Rattle.gen1_stats.specs.Sheets.{least_sheet};
+    ghost use Rattle.gen1_stats.specs.Teams.{least_sheet};
 
     ghost is_default = { λ spec. spec ≡ least_sheet };
 

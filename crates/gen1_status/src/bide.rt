@@ -3,7 +3,7 @@ ghost use Rattle.gen1_rolls.specs.Draws.{Steps};
 ghost use Rattle.gen1_layout.specs.Operations.{DoesWhere, DrawsWhere, holding, scene};
 ghost use Rattle.gen1_layout.specs.Words.{AddsAtMost, HasRoom, false};
 ghost use Rattle.gen1_machine.specs.LateEffects.{bide_for, start_bide};
-ghost use Rattle.gen1_status.specs.Bide.{IsUntied};
+ghost use Rattle.gen1_status.specs.Gate.{IsUntied};
 
 use gen1_events::EventSink;
 use gen1_layout::Packed;

@@ -4,7 +4,7 @@ ghost use Rattle.std.specs.Prelude.{◌&&◌, ◌≡◌, ◌≤◌};
 ghost use Rattle.gen1_layout.specs.Words.{Reads, ReadsPacked, is_frozen, is_living, member_at, party};
 ghost use Rattle.gen1_stats.specs.Members.{is_marked};
 ghost use Rattle.gen1_machine.specs.State.{any_living};
-ghost use Rattle.gen1_status.specs.Clauses.{counts};
+ghost use Rattle.gen1_status.specs.Statuses.{counts};
 
 use gen1_layout::Packed;
 use gen1_machine::Side;

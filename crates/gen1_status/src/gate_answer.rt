@@ -1,6 +1,6 @@
 //! The result of the gate (docs/MECHANICS.md, "Gate").
 ghost use Rattle.std.specs.Prelude.{◌≡◌};
-ghost use Rattle.gen1_status.specs.GateAnswer.{stopped_by};
+ghost use Rattle.gen1_status.specs.Gate.{stopped_by};
 
 /// The result of the gate for an action (docs/MECHANICS.md, "Gate").
 #[derive(Clone, Copy, Debug, PartialEq, Eq)]

@@ -10,8 +10,7 @@ ghost use Rattle.gen1_stats.specs.declared.status.Status.{Status as StatusOf};
 ghost use Rattle.gen1_machine.specs.Layout.{status_byte};
 ghost use Rattle.gen1_machine.specs.Rules.{Rules};
 ghost use Rattle.gen1_machine.specs.Valid.{IsStatus};
-ghost use Rattle.gen1_status.specs.Gate.{ActsAtOnce, is_held, keeps_from_acting};
-ghost use Rattle.gen1_status.specs.GateAnswer.{DrawsTelling};
+ghost use Rattle.gen1_status.specs.Gate.{ActsAtOnce, is_held, keeps_from_acting, DrawsTelling};
 
 mod by_move;
 mod by_status;
@@ -76,7 +75,7 @@ fn acts_at_once(battle: &Packed, side: Side, pick: Pick) -> bool
 }
 
 // By the byte of a member's status.
-#[tactic(auto, using(crate::proofs::StatusBytes::keeps))]
+#[tactic(auto, using(crate::proofs::Statuses::keeps))]
 fn keeps_from_acting(byte: u8) -> bool
     ensures { (rules : Rules) (status : StatusOf) → IsStatus rules status
         → byte ≡ status_byte status → result ≡ keeps_from_acting status }

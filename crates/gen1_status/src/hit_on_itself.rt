@@ -3,7 +3,7 @@ ghost use Rattle.std.specs.Prelude.{◌≡◌, ◌≢◌};
 ghost use Rattle.gen1_layout.specs.Operations.{scene};
 ghost use Rattle.gen1_layout.specs.Words.{AddsAtMost, Frame, HasRoom, Progress, Shows, conditions, false, other, stop, ◌▸◌};
 ghost use Rattle.gen1_machine.specs.HitOnItself.{hurt_itself, hurt_itself_by, land_on_foes_substitute};
-ghost use Rattle.gen1_status.specs.GateAnswer.{DoesTelling, frame_after};
+ghost use Rattle.gen1_status.specs.Gate.{DoesTelling, frame_after};
 
 use crate::Gate;
 use gen1_events::EventSink;

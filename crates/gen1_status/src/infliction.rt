@@ -4,7 +4,7 @@ ghost use Rattle.gen1_layout.specs.Operations.{Does, DoesWhere, scene, under};
 ghost use Rattle.gen1_layout.specs.Words.{AddsAtMost, HasRoom, false};
 ghost use Rattle.gen1_machine.specs.Progress.{inflict};
 ghost use Rattle.gen1_machine.specs.Valid.{IsStatus};
-ghost use Rattle.gen1_status.specs.Infliction.{IsCountOf, status_of_kind};
+ghost use Rattle.gen1_status.specs.Statuses.{IsCountOf, status_of_kind};
 
 use crate::take_penalty;
 use gen1_events::EventSink;

@@ -8,7 +8,7 @@ ghost use Rattle.gen1_stats.specs.declared.status.Status.{Status as StatusOf};
 ghost use Rattle.gen1_machine.specs.Layout.{status_byte};
 ghost use Rattle.gen1_machine.specs.Rules.{Rules};
 ghost use Rattle.gen1_machine.specs.Valid.{IsStatus};
-ghost use Rattle.gen1_status.specs.ResidualDamage.{takes_hp};
+ghost use Rattle.gen1_status.specs.Statuses.{takes_hp};
 
 use gen1_events::EventSink;
 use gen1_hits::{gain_hp, lose_hp};
@@ -60,7 +60,7 @@ pub fn suffers(battle: &Packed, side: Side) -> bool
 }
 
 // By the byte of a member's status.
-#[tactic(auto, using(crate::proofs::StatusBytes::takes))]
+#[tactic(auto, using(crate::proofs::Statuses::takes))]
 fn takes_hp(byte: u8) -> bool
     ensures { (rules : Rules) (status : StatusOf) → IsStatus rules status
         → byte ≡ status_byte status → result ≡ takes_hp status }

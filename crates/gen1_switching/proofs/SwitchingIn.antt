@@ -20,10 +20,8 @@ use Rattle.gen1_machine.specs.Step.{opened}
 use Rattle.gen1_machine.specs.Layout.{status_byte}
 use Rattle.gen1_machine.specs.Valid.{IsMembersUnder, IsOutcome, IsStatus, IsUnstarted}
 use Rattle.gen1_machine.specs.Plans.{InRange}
-use Rattle.gen1_layout.specs.SentOut.{own_stats_of, sent_as, stats_of}
-use Rattle.gen1_layout.specs.Shows.{ShowsPacked}
-use Rattle.gen1_layout.specs.Storable.{IsStorable, IsStorableParty}
-use Rattle.gen1_layout.proofs.Bits.{none_above}
+use Rattle.gen1_layout.specs.Shows.{own_stats_of, sent_as, stats_of, ShowsPacked, IsStorable, IsStorableParty}
+use Rattle.gen1_layout.proofs.Counts.{none_above}
 use Rattle.gen1_layout.proofs.Steps.{within_packed}
 use Rattle.gen1_switching.specs.SwitchingIn.{coming_out, halvings_of, has_penalty, quarterings_of, stats_out, stats_sent_out, with_out}
 use Rattle.gen1_switching.specs.Updates.{frame_of}

@@ -2,5 +2,3 @@
 pub mod Updates
 -- A member that comes out.
 pub mod SwitchingIn
--- The end of an update.
-pub mod Falls

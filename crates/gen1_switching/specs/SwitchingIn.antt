@@ -9,7 +9,7 @@ use Rattle.gen1_machine.specs.Plans.{InRange}
 use Rattle.gen1_machine.specs.State.{health_of}
 use Rattle.gen1_machine.specs.SwitchingIn.{with_sent_out}
 use Rattle.gen1_events.specs.declared.untested.Untested.{Untested}
-use Rattle.gen1_events.specs.Untested.{IsInRange, event_of}
+use Rattle.gen1_events.specs.Fields.{IsInRange, event_of}
 
 -- The penalty that a status brings: a halved Attack, or a quartered Speed
 

@@ -1,21 +1,24 @@
 -- The start of an update, and how it leaves the bytes, the events and the generator (docs/MECHANICS.md, "Falls and
 -- requests").
-use Rattle.std.specs.Prelude.{◌≡◌, ◌⊎◌}
-use Rattle.gen1_layout.specs.Words.{Event, Frame, List, Progress, Setting, Telling, Within, false, true, ℕ}
+use Rattle.std.specs.Prelude.{◌≡◌, ◌⊎◌, ◌<◌, ◌||◌}
+use Rattle.gen1_layout.specs.Words.{Event, Frame, List, Progress, Setting, Telling, Within, false, true, ℕ, Bool, None, Option, Phase, Shows, Some}
 use Rattle.gen1_rolls.specs.Draws.{Drawing, Since, Source, StandsIn}
 use Rattle.gen1_rolls.specs.Streams.{IsStream, Link, Stream}
 use Rattle.gen1_machine.specs.declared.choice.Choice.{Choice}
 use Rattle.gen1_machine.specs.declared.side.Side.TheVariants.{One, Two}
-use Rattle.gen1_machine.specs.declared.terms.Outcome.TheVariants.{Ongoing}
+use Rattle.gen1_machine.specs.declared.terms.Outcome.TheVariants.{Ongoing, Fault}
 use Rattle.gen1_machine.specs.declared.terms.Request.{Request}
 use Rattle.gen1_machine.specs.State.{State}
 use Rattle.gen1_machine.specs.Plans.{Comes}
-use Rattle.gen1_machine.specs.Progress.{new_action}
+use Rattle.gen1_machine.specs.Progress.{new_action, choose, has_fallen}
 use Rattle.gen1_machine.specs.Step.{offers, opened, step, Accepted}
 use Rattle.gen1_machine.specs.Valid.{IsUnstarted}
 use Rattle.gen1_layout.specs.Operations.{Premise, Scene}
 use Rattle.gen1_layout.specs.Parts.{Parts}
-use Rattle.gen1_layout.specs.Within.{setting_of, Stands}
+use Rattle.gen1_layout.specs.Shows.{setting_of, Stands}
+use Rattle.gen1_machine.specs.declared.terms.Outcome.{Outcome}
+use Rattle.gen1_machine.specs.Falls.{ask_for_moves, ask_for_switches, end_if_decided}
+use Rattle.gen1_machine.specs.Ruling.{ruling_of}
 
 -- An update at its start.
 abbrev pub frame_of : State → Frame
@@ -66,3 +69,24 @@ pub record Steps (s : State) (one two : Choice) (parts : Parts) (events : Tellin
   pub told : List Event
   pub answers : (step s one two).answer ≡ Accepted told
   pub written : events told
+
+-- The end of an update, in the parts of the code (docs/MECHANICS.md, "Falls and requests").
+
+-- The number of the fault that ended a battle.
+abbrev pub fault_in : Outcome → Option ℕ
+fault_in (Fault n) = Some n
+fault_in _ = None
+
+-- What is asked for next, if nothing is decided.
+abbrev pub ask_next : Phase
+ask_next = choose (λ p. has_fallen One p || has_fallen Two p) ask_for_switches ask_for_moves
+
+-- A premise: the turn limit isn't reached.
+abbrev pub turns_left : Premise
+turns_left g p Then = p.field.turn < g.setting.terms.limit → Then
+
+-- By whether the battle is decided. Either it has ended and the rest of the update is skipped, or nothing has
+-- happened and a turn is left.
+abbrev pub Decides : Frame → Parts → Telling → Bool → Progress → Type 0
+Decides g parts events true p = Shows g parts events true (end_if_decided (ruling_of g.setting.terms) p)
+Decides g parts events false p = (end_if_decided (ruling_of g.setting.terms) p ≡ p) × Shows g parts events false p × (p.field.turn < g.setting.terms.limit)

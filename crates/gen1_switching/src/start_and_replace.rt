@@ -10,7 +10,7 @@ ghost use Rattle.gen1_machine.specs.State.{State};
 ghost use Rattle.gen1_machine.specs.Step.{close_update, opened};
 ghost use Rattle.gen1_machine.specs.SwitchingIn.{replace, send_if_chosen, start};
 ghost use Rattle.gen1_machine.specs.Valid.{IsUnstarted};
-ghost use Rattle.gen1_layout.specs.Within.{Stands, setting_of};
+ghost use Rattle.gen1_layout.specs.Shows.{Stands, setting_of};
 ghost use Rattle.gen1_switching.specs.Updates.{Plays, Starts, Steps, Updated, both_come, frame_of};
 
 use crate::switching_in::send_first;

@@ -6,8 +6,7 @@ use Rattle.std.proofs.lemmas.List.Sums.{AllPass-from_list_all}
 use Rattle.gen1_tables.specs.declared.element.Element.{Element}
 use Rattle.gen1_tables.specs.declared.element.Element.TheVariants.{Normal, Fighting, Flying, Poison, Ground, Rock, Bug, Ghost, Fire, Water, Grass, Electric, Psychic, Ice, Dragon}
 use Rattle.gen1_tables.specs.declared.types.TheConstants.{FACTORS}
-use Rattle.gen1_tables.specs.Factors.{in_tenths}
-use Rattle.gen1_tables.specs.Types.{TypeRow, number_of, rows_against, tenths_of, type_rows}
+use Rattle.gen1_tables.specs.Types.{in_tenths, TypeRow, number_of, rows_against, tenths_of, type_rows}
 
 abbrev elements : List Element
 elements = Normal ∷ Fighting ∷ Flying ∷ Poison ∷ Ground ∷ Rock ∷ Bug ∷ Ghost ∷ Fire ∷ Water ∷ Grass ∷ Electric ∷ Psychic ∷ Ice ∷ Dragon ∷ []

@@ -1,12 +1,51 @@
--- Finding a number by its name.
-use Rattle.std.proofs.Common.{◌≡◌, ◌≢◌, ◌≤◌, ℕ, ◌+◌, ◌-◌, Bool, List, [], ◌∷◌, Option, Some, None, IfSome, IsNone, MatchOption, nat_le, ◌&&◌, if◌then◌else◌, cond, refl, sym, ap, subst, ◌∙◌, map, get_or, length, arith, bytes_eq, option_map, position}
+-- The code's rows are those of the specification, and a number is found by its name.
+use Rattle.std.proofs.Common.{◌≡◌, ◌<◌, ◌≤◌, ℕ, ◌-◌, ◌*◌, ◌/◌, nat_le, true, List, [], ◌∷◌, refl, sym, ap, ◌∙◌, map, get_or, length, arith, ◌≢◌, ◌+◌, Bool, Option, Some, None, IfSome, IsNone, MatchOption, ◌&&◌, if◌then◌else◌, cond, subst, bytes_eq, option_map, position}
+use Rattle.std.proofs.lemmas.List.{get_or-map}
+use Rattle.std.proofs.lemmas.Bool.{leb-true}
+use Rattle.gen1_tables.specs.Species.{species_rows, species_row, types_of, base_of}
+use Rattle.gen1_tables.specs.Moves.{move_rows, move_row, row_of}
+use Rattle.gen1_tables.specs.declared.species.TheConstants.{SPECIES_ROWS}
+use Rattle.gen1_tables.specs.declared.moves.TheConstants.{MOVE_ROWS}
 use Rattle.std.specs.List.{position_from, range_with_len}
 use Rattle.std.proofs.lemmas.Iterator.Adapters.{position_from-zero}
 use Rattle.std.proofs.lemmas.List.FromFn.{get_or-range_with_len, length-range_with_len}
 use Rattle.std.proofs.lemmas.List.Quantifiers.{position-Some}
 use Rattle.std.proofs.lemmas.Slice.Eq.{bytes_eq-Decides}
 use Rattle.gen1_tables.specs.Names.{name_at, place_of, species_names, species_name, species_named, move_names, move_name, move_named}
-use Rattle.gen1_tables.proofs.Rows.{agree_at}
+use denote.Enum.Bare.{sameb}
+use Rattle.gen1_tables.specs.contracts.element.Element.{the_type}
+use Rattle.gen1_tables.specs.declared.element.Element.{Element}
+use Rattle.gen1_tables.specs.declared.element.Element.TheVariants.{Normal}
+use Rattle.gen1_tables.specs.Types.{same_type}
+
+-- The code's rows are those of the specification. Each table is computed once.
+
+-- If two lists agree under two functions, they agree at each index that both have.
+pub agree_at : {A B C : Type 0} (f : A → C) (g : B → C) (xs : List A) (ys : List B) (a : A) (b : B) → map f xs ≡ map g ys
+    → (i : ℕ) → i < length xs → i < length ys → f (get_or xs i a) ≡ g (get_or ys i b)
+agree_at f g xs ys a b same i in_xs in_ys =
+    sym (get_or-map f xs i a (g b) in_xs) ∙ ap (λ zs. get_or zs i (g b)) same ∙ get_or-map g ys i b (g b) in_ys
+
+pub move_row-at : (n : ℕ) (d : _) → 1 ≤ n → n ≤ 165 → row_of (get_or MOVE_ROWS (n - 1) d) ≡ move_row n
+unfolding move_row move_rows
+move_row-at n d low high = agree_at row_of (λ r. r) MOVE_ROWS move_rows d _ refl (n - 1) (omega arith) (omega arith)
+
+pub types_of-at : (n : ℕ) (d : _) → 1 ≤ n → n ≤ 151 → (get_or SPECIES_ROWS (n - 1) d).0 ∷ (get_or SPECIES_ROWS (n - 1) d).1 ∷ [] ≡ types_of (species_row n)
+unfolding species_row species_rows
+types_of-at n d low high = agree_at (λ r. r.0 ∷ r.1 ∷ []) types_of SPECIES_ROWS species_rows d _ refl (n - 1) (omega arith) (omega arith)
+
+pub base_of-at : (n : ℕ) (d : _) → 1 ≤ n → n ≤ 151 → (get_or SPECIES_ROWS (n - 1) d).2 ≡ base_of (species_row n)
+unfolding species_row species_rows
+base_of-at n d low high = agree_at (λ r. r.2) base_of SPECIES_ROWS species_rows d _ refl (n - 1) (omega arith) (omega arith)
+
+-- An accuracy in 255ths is that in percent, rounded down.
+pub accuracy-at : (n : ℕ) (d : _) → 1 ≤ n → n ≤ 165 → (get_or MOVE_ROWS (n - 1) d).5 ≡ (move_row n).accuracy * 255 / 100
+unfolding move_row move_rows
+accuracy-at n d low high = agree_at (λ r. r.5) (λ r. r.accuracy * 255 / 100) MOVE_ROWS move_rows d _ refl (n - 1) (omega arith) (omega arith)
+
+-- A move has at most 40 PP without PP ups.
+pub pp-le : (n : ℕ) (d : _) → 1 ≤ n → n ≤ 165 → (get_or MOVE_ROWS (n - 1) d).3 ≤ 40
+pp-le n d low high = leb-true _ 40 (agree_at (λ r. nat_le r.3 40) (λ r. true) MOVE_ROWS MOVE_ROWS d d refl (n - 1) (omega arith) (omega arith))
 
 position_from-map : {A B : Type 0} (p : B → Bool) (f : A → B) (i : ℕ) (xs : List A) → position_from p i (map f xs) ≡ position_from (λ x. p (f x)) i xs
 position_from-map p f i [] = refl
@@ -74,3 +113,10 @@ IsNone-none_has name size text (Some n) place none = absurd (none n place.0 plac
 pub IsNone-Some : (o : Option ℕ) (n : ℕ) → o ≡ Some n → IsNone o → ⊥
 IsNone-Some None n e none = cc
 IsNone-Some (Some m) n e none = cc
+
+-- Two types are the same exactly if the code finds them equal.
+
+pub same-is : (t u : Element) → sameb the_type t u ≡ same_type t u
+same-is Normal Normal = refl
+same-is t Normal = refl
+same-is t u = refl

@@ -1,6 +1,6 @@
 -- The types: their numbers, which of them are special, and the factors between them (docs/TABLES.md, "Types", "Type
 -- rows").
-use Rattle.std.specs.Prelude.{ℕ, List, [], ◌∷◌, Bool, true, false, filter, ◌==◌, ◌&&◌, ◌||◌}
+use Rattle.std.specs.Prelude.{ℕ, List, [], ◌∷◌, Bool, true, false, filter, ◌==◌, ◌&&◌, ◌||◌, ◌%◌, ◌*◌, ◌/◌}
 use Rattle.gen1_tables.specs.declared.element.Element.{Element}
 use Rattle.gen1_tables.specs.declared.element.Element.TheVariants.{Normal, Fighting, Flying, Poison, Ground, Rock, Bug, Ghost, Fire, Water, Grass, Electric, Psychic, Ice, Dragon}
 
@@ -150,3 +150,9 @@ abbrev pub tenths_of : List TypeRow → ℕ × ℕ
 tenths_of [] = (10, 10)
 tenths_of (row ∷ []) = (row.tenths, 10)
 tenths_of (row ∷ next ∷ more) = (row.tenths, next.tenths)
+
+-- The factors of a foe's two types, as an element of the code's table has them.
+
+-- Two factors in tenths. The element is 16 times the first factor plus the second, both in fifths.
+abbrev pub in_tenths : ℕ → ℕ × ℕ
+in_tenths factors = (factors / 16 * 5, factors % 16 * 5)

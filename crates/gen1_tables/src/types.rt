@@ -1,7 +1,6 @@
 //! The rows of the type chart (docs/TABLES.md, "Type rows").
 ghost use Rattle.std.specs.Prelude.{length, map, ◌≡◌, ◌≤◌};
-ghost use Rattle.gen1_tables.specs.Factors.{in_tenths};
-ghost use Rattle.gen1_tables.specs.Types.{TypeRow, row_of, rows_against, tenths_of, type_rows};
+ghost use Rattle.gen1_tables.specs.Types.{in_tenths, TypeRow, row_of, rows_against, tenths_of, type_rows};
 
 use crate::element::Element::{
     self, Bug, Dragon, Electric, Fighting, Fire, Flying, Ghost, Grass, Ground, Ice, Normal, Poison,

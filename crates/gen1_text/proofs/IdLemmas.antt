@@ -10,7 +10,7 @@ use Rattle.std.specs.Char.{is_ascii_alphanumeric, to_ascii_lowercase}
 use Rattle.std.specs.Option.{option_or}
 use Rattle.std.proofs.lemmas.Str.Ascii.{lowercase-lowercase}
 use Rattle.std.proofs.lemmas.List.FromFn.{get_or-range_with_len, length-range_with_len}
-use Rattle.gen1_tables.proofs.Rows.{agree_at}
+use Rattle.gen1_tables.proofs.Named.{agree_at}
 use Rattle.gen1_tables.specs.Names.{move_name, move_names, name_at, species_name, species_names}
 use Rattle.gen1_text.specs.Ids.{id_of, move_called, other_name, place_called, species_called}
 

@@ -3,11 +3,10 @@ use Rattle.std.proofs.Common.{Err, List, None, Ok, Option, Some, [], add-one, ap
 use Rattle.std.specs.Prelude.{nat_le, option_map, slice_set, ◌==◌}
 use Rattle.std.proofs.Math.Seq.{take-suc-set}
 use Rattle.std.proofs.lemmas.Bool.Decides.{nat_tests}
-use Rattle.gen1_stats.specs.Sheets.{Sheet}
+use Rattle.gen1_stats.specs.Teams.{Sheet}
 use Rattle.gen1_text.specs.MemberLines.{with_move}
-use Rattle.gen1_text.specs.Packed.{all_unpacked, unpacked}
-use Rattle.gen1_text.specs.PackedFields.{each_number, number_if_any, six_numbers, with_moves}
-use Rattle.gen1_text.specs.Results.{behind}
+use Rattle.gen1_text.specs.Packed.{all_unpacked, unpacked, each_number, number_if_any, six_numbers, with_moves}
+use Rattle.gen1_text.specs.Words.{behind}
 use Rattle.gen1_text.specs.Spreads.{Spread}
 use Rattle.gen1_text.specs.declared.fault.MemberFault.{MemberFault}
 use Rattle.gen1_text.specs.declared.fault.PackedFault.{PackedFault}

@@ -1,14 +1,22 @@
--- What is described after members, a line at a time.
-use Rattle.std.proofs.Common.{Err, List, None, Ok, Option, Result, Some, [], ap, append_assoc, arith, false, refl, true, ℕ, ◌++◌, ◌+◌, ◌<◌, ◌∙◌, ◌∷◌, ◌≡◌, ◌≤◌}
-use Rattle.std.specs.Prelude.{OnSome, nat_le}
+-- What a text says, a piece at a time: numbers, EVs and IVs, and lines.
+use Rattle.std.proofs.Common.{Err, List, None, Ok, Option, Result, Some, [], ap, append_assoc, arith, false, refl, true, ℕ, ◌++◌, ◌+◌, ◌<◌, ◌∙◌, ◌∷◌, ◌≡◌, ◌≤◌, Bool, cond, drop, length, not, take, ◌-◌, ◌*◌, add-one, drop_of_length-le, get_or, suc}
+use Rattle.std.specs.Prelude.{OnSome, nat_le, map, ◌==◌, option_and_then, slice_set, if◌then◌else◌, ◌&&◌}
 use Rattle.std.proofs.lemmas.Bool.Decides.{nat_tests}
-use Rattle.gen1_stats.specs.Sheets.{Sheet}
+use Rattle.gen1_stats.specs.Teams.{Sheet}
 use Rattle.gen1_text.specs.MemberLines.{changed, headed}
-use Rattle.gen1_text.specs.Results.{behind, result_then}
+use Rattle.gen1_text.specs.Words.{behind, result_then, pieces_of, trimmed, number_of}
 use Rattle.gen1_text.specs.Texts.{at_line, parts_members, told}
 use Rattle.gen1_text.specs.declared.fault.MemberFault.TheVariants.{SeventhMember}
 use Rattle.gen1_text.specs.declared.fault.TextFault.{TextFault}
 use Rattle.gen1_text.specs.declared.fault.TextFault.TheVariants.{Line}
+use Rattle.std.specs.List.{onto_first, position_or_len, slice_split, list_all}
+use Rattle.std.proofs.lemmas.List.{length-map, take_rest}
+use Rattle.std.proofs.lemmas.List.Sums.{count_by-le-length}
+use Rattle.std.proofs.lemmas.List.Splits.{length-slice_split, slice_split_first}
+use Rattle.gen1_text.specs.Spreads.{Spread, part_of, with_parts}
+use Rattle.std.proofs.Math.Seq.{drop-cons}
+use Rattle.std.specs.Char.{digit_value, is_ascii_digit}
+use Rattle.std.specs.Str.Parse.{digits_value_after}
 
 pub behind-more : {E : Type 0} (sheets : List Sheet) (sheet : Sheet) (r : Result (List Sheet) E) → behind (sheets ++ sheet ∷ []) r ≡ behind sheets (behind (sheet ∷ []) r)
 behind-more sheets sheet (Ok more) = ap Ok (append_assoc sheets (sheet ∷ []) more)
@@ -73,3 +81,102 @@ told-last members number current pieces sheet within none = rw (within, none) re
 pub held : (current : Option Sheet) (sheet : Sheet) (P : Type 0) → current ≡ Some sheet → OnSome current P → P
 held None sheet P e h = absurd (cc)
 held (Some other) sheet P e h = h
+
+-- The first of the pieces of a text.
+
+-- a list without separators is a single part
+slice_split_whole : (p : ℕ → Bool) (xs : List ℕ) → length xs ≤ position_or_len p xs → slice_split p xs ≡ xs ∷ []
+slice_split_whole p [] h = refl
+slice_split_whole p (x ∷ xs) h = by_test (p x) h (slice_split_whole p xs)
+  where
+    by_test : (t : Bool) → length (x ∷ xs) ≤ cond (not t) (1 + position_or_len p xs) 0 → (length xs ≤ position_or_len p xs → slice_split p xs ≡ xs ∷ [])
+        → cond t ([] ∷ slice_split p xs) (onto_first x (slice_split p xs)) ≡ (x ∷ xs) ∷ []
+    by_test true h whole = absurd (omega arith)
+    by_test false h whole = ap (onto_first x) (whole (omega arith))
+
+pub pieces_of_at : (separator place : ℕ) (text piece : List ℕ) → place ≡ position_or_len (λ b. b == separator) text → place < length text → piece ≡ trimmed (take place text)
+    → pieces_of separator text ≡ piece ∷ pieces_of separator (take (length text - (place + 1)) (drop (place + 1) text))
+unfolding pieces_of
+pieces_of_at separator place text piece e h is = rw (is, e, take_rest) (ap (map trimmed) (slice_split_first (λ b. b == separator) text 0 (omega arith)))
+
+pub pieces_of_whole : (separator place : ℕ) (text piece : List ℕ) → place ≡ position_or_len (λ b. b == separator) text → length text ≤ place → piece ≡ trimmed text
+    → pieces_of separator text ≡ piece ∷ []
+unfolding pieces_of
+pieces_of_whole separator place text piece e h is = rw is (ap (map trimmed) (slice_split_whole (λ b. b == separator) text (omega arith)))
+
+-- a text has one more piece than separators
+pub length-pieces_of : (separator : ℕ) (text : List ℕ) → length (pieces_of separator text) ≤ length text + 1
+unfolding pieces_of
+length-pieces_of separator text =
+    omega (arith, length-map (slice_split (λ b. b == separator) text) trimmed, length-slice_split (λ b. b == separator) text, count_by-le-length (λ b. b == separator) text)
+
+-- What parts say, a part at a time.
+
+pub parts_stop : (most : ℕ) (spread : Spread) (pieces parts : List (List ℕ)) (part : List ℕ) → pieces ≡ part ∷ parts → part_of most part ≡ None
+    → with_parts most spread pieces ≡ None
+unfolding with_parts
+parts_stop most spread pieces parts part split none =
+    ap (with_parts most spread) split ∙ ap (λ o. option_and_then (λ said. with_parts most (slice_set spread said.0 (Some said.1)) parts) o) none
+
+pub parts_go : (most : ℕ) (spread : Spread) (pieces parts : List (List ℕ)) (part : List ℕ) (said : ℕ × ℕ) → pieces ≡ part ∷ parts → part_of most part ≡ Some said
+    → with_parts most spread pieces ≡ with_parts most (slice_set spread said.0 (Some said.1)) parts
+unfolding with_parts
+parts_go most spread pieces parts part said split some =
+    ap (with_parts most spread) split ∙ ap (λ o. option_and_then (λ said. with_parts most (slice_set spread said.0 (Some said.1)) parts) o) some
+
+pub parts_end : (most : ℕ) (spread : Spread) (pieces : List (List ℕ)) → pieces ≡ [] → with_parts most spread pieces ≡ Some spread
+unfolding with_parts
+parts_end most spread pieces none = ap (with_parts most spread) none
+
+-- A whole number, a digit at a time.
+
+-- the number that digits make after those of n, if it is at most `most`
+unfoldable pub number_on : ℕ → ℕ → List ℕ → Option ℕ
+number_on most n ds = if list_all is_ascii_digit ds && nat_le (digits_value_after 10 n ds) most then Some (digits_value_after 10 n ds) else None
+
+-- more digits make no smaller number
+digits_value_after-ge : (ds : List ℕ) (n : ℕ) → n ≤ digits_value_after 10 n ds
+digits_value_after-ge [] n = omega arith
+digits_value_after-ge (d ∷ ds) n = let more = digits_value_after-ge ds (n * 10 + digit_value d) in omega arith
+
+pub number_on-start : (most : ℕ) (ds : List ℕ) → 0 < length ds → number_on most 0 ds ≡ number_of most ds
+unfolding number_on number_of
+number_on-start most ds h = grind (arith, nat_tests)
+
+pub number_of-empty : (most : ℕ) (ds : List ℕ) → length ds ≡ 0 → None ≡ number_of most ds
+unfolding number_of
+number_of-empty most [] h = refl
+number_of-empty most (d ∷ ds) h = absurd (omega arith)
+
+pub number_on-end : (most n : ℕ) → n ≤ most → number_on most n [] ≡ Some n
+unfolding number_on
+number_on-end most n h = grind (arith, nat_tests)
+
+pub number_on-digit : (most n d : ℕ) (ds : List ℕ) → is_ascii_digit d ≡ true → number_on most n (d ∷ ds) ≡ number_on most (n * 10 + digit_value d) ds
+unfolding number_on
+number_on-digit most n d ds h = ap (λ b. if (b && list_all is_ascii_digit ds) && nat_le (digits_value_after 10 (n * 10 + digit_value d) ds) most then Some (digits_value_after 10 (n * 10 + digit_value d) ds) else None) h
+
+pub number_on-other : (most n d : ℕ) (ds : List ℕ) → is_ascii_digit d ≡ false → number_on most n (d ∷ ds) ≡ None
+unfolding number_on
+number_on-other most n d ds h = ap (λ b. if (b && list_all is_ascii_digit ds) && nat_le (digits_value_after 10 (n * 10 + digit_value d) ds) most then Some (digits_value_after 10 (n * 10 + digit_value d) ds) else None) h
+
+pub number_on-large : (most n : ℕ) (ds : List ℕ) → most < n → number_on most n ds ≡ None
+unfolding number_on
+number_on-large most n ds h = let more = digits_value_after-ge ds n in grind (arith, nat_tests)
+
+digit_value-digit : (d : ℕ) → is_ascii_digit d ≡ true → digit_value d ≡ d - 48
+digit_value-digit d h = grind (arith, nat_tests)
+
+-- the same at a place of a text
+pub number_on-other_at : (most n i : ℕ) (text : List ℕ) → i < length text → is_ascii_digit (get_or text i 0) ≡ false → number_on most n (drop i text) ≡ None
+number_on-other_at most n i text h other = rw (drop-cons text i 0 h) (number_on-other most n _ _ other)
+
+number_on-digit_less : (most n d : ℕ) (ds : List ℕ) → is_ascii_digit d ≡ true → number_on most n (d ∷ ds) ≡ number_on most (n * 10 + (d - 48)) ds
+number_on-digit_less most n d ds h = number_on-digit most n d ds h ∙ ap (λ v. number_on most (n * 10 + v) ds) (digit_value-digit d h)
+
+pub number_on-digit_at : (most n i : ℕ) (text : List ℕ) → i < length text → is_ascii_digit (get_or text i 0) ≡ true
+    → number_on most n (drop i text) ≡ number_on most (n * 10 + (get_or text i 0 - 48)) (drop (i + 1) text)
+number_on-digit_at most n i text h digit = rw (add-one, drop-cons text i 0 h) (number_on-digit_less most n (get_or text i 0) (drop (suc i) text) digit)
+
+pub number_on-end_at : (most n i : ℕ) (text : List ℕ) → length text ≤ i → n ≤ most → number_on most n (drop i text) ≡ Some n
+number_on-end_at most n i text h fits = rw (drop_of_length-le text h) (number_on-end most n fits)

@@ -2,11 +2,10 @@
 use Rattle.std.specs.Prelude.{Bool, Err, List, Ok, Result, [], codes, if◌then◌else◌, length, nat_eq, nat_le, replicate, take, ℕ, ◌++◌, ◌-◌, ◌==◌, ◌||◌, ◌∷◌}
 use Rattle.std.specs.List.{after_last, ends_with, list_any, starts_with}
 use Rattle.std.specs.Option.{ok_or, option_map_or}
-use Rattle.gen1_stats.specs.Sheets.{Sheet}
+use Rattle.gen1_stats.specs.Teams.{Sheet}
 use Rattle.gen1_text.specs.Ids.{move_called, species_called}
-use Rattle.gen1_text.specs.Results.{result_then}
+use Rattle.gen1_text.specs.Words.{result_then, has_inside, number_of, pieces_of, text_after, trimmed}
 use Rattle.gen1_text.specs.Spreads.{dvs_of_ivs, exp_of_evs, experience, nothing_said, with_parts}
-use Rattle.gen1_text.specs.Words.{has_inside, number_of, pieces_of, text_after, trimmed}
 use Rattle.gen1_text.specs.declared.fault.MemberFault.{MemberFault}
 use Rattle.gen1_text.specs.declared.fault.MemberFault.TheVariants.{Evs, FifthMove, Item, Ivs, Level, Move, Species, UnknownLine}
 

@@ -2,11 +2,9 @@
 use Rattle.std.specs.Prelude.{Bool, Err, List, None, Ok, Option, Result, Some, [], codes, if◌then◌else◌, length, nat_eq, nat_le, ℕ, ◌+◌, ◌==◌, ◌||◌, ◌∷◌}
 use Rattle.std.specs.List.{starts_with}
 use Rattle.gen1_stats.specs.Members.{Member}
-use Rattle.gen1_stats.specs.Sheets.{Sheet}
-use Rattle.gen1_stats.specs.Teams.{team_of, team_refusal}
+use Rattle.gen1_stats.specs.Teams.{Sheet, team_of, team_refusal}
 use Rattle.gen1_text.specs.MemberLines.{changed, headed}
-use Rattle.gen1_text.specs.Results.{behind, result_then}
-use Rattle.gen1_text.specs.Words.{pieces_of}
+use Rattle.gen1_text.specs.Words.{behind, result_then, pieces_of}
 use Rattle.gen1_text.specs.declared.fault.MemberFault.{MemberFault}
 use Rattle.gen1_text.specs.declared.fault.MemberFault.TheVariants.{SeventhMember}
 use Rattle.gen1_text.specs.declared.fault.TextFault.{TextFault}

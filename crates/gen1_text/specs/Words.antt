@@ -1,8 +1,12 @@
--- Parts of a text, and the numbers in it (docs/TEAM_TEXT.md, "Export text", "Packed line").
-use Rattle.std.specs.Prelude.{Bool, List, None, Option, Some, [], drop, false, if◌then◌else◌, length, map, nat_eq, nat_le, nat_lt, take, ℕ, ◌&&◌, ◌-◌, ◌==◌, ◌||◌, ◌∷◌}
+-- Parts of a text, the numbers in it, and steps that may fail (docs/TEAM_TEXT.md, "Export text", "Packed line").
+use Rattle.std.specs.Prelude.{Bool, List, None, Option, Some, [], drop, false, if◌then◌else◌, length, map, nat_eq, nat_le, nat_lt, take, ℕ, ◌&&◌, ◌-◌, ◌==◌, ◌||◌, ◌∷◌, Err, Ok, Result, ◌++◌}
 use Rattle.std.specs.Char.{is_ascii_digit, is_ascii_whitespace}
 use Rattle.std.specs.List.{list_all, prefix_len, slice_split, starts_with, suffix_len}
 use Rattle.std.specs.Str.Parse.{digits_value}
+use denote.Ref.{Bor}
+use Rattle.gen1_text.specs.declared.cuts.Pieces.{Pieces}
+use Rattle.arrayvec.specs.ArrayVec.{ArrayVec}
+use Rattle.gen1_stats.specs.Teams.{Sheet}
 
 abbrev pub trimmed_start : List ℕ → List ℕ
 trimmed_start text = drop (prefix_len is_ascii_whitespace text) text
@@ -34,3 +38,32 @@ is_number most text = nat_lt 0 (length text) && (list_all is_ascii_digit text &&
 -- the whole number that a text represents, if it is at most `most`
 unfoldable pub number_of : ℕ → List ℕ → Option ℕ
 number_of most text = if is_number most text then Some (digits_value 10 text) else None
+
+-- Steps that may fail.
+
+-- a step after another
+abbrev pub result_then : {A B E : Type 0} → (A → Result B E) → Result A E → Result B E
+result_then step (Ok x) = step x
+result_then step (Err fault) = Err fault
+
+-- these elements, and then those of the result
+abbrev pub behind : {A E : Type 0} → List A → Result (List A) E → Result (List A) E
+behind first (Ok more) = Ok (first ++ more)
+behind first (Err fault) = Err fault
+
+-- The pieces that the code's `Pieces` has still to return.
+
+-- the pieces of the rest, if there is one
+abbrev pub pieces_of_rest : ℕ → Option (Bor (List ℕ)) → List (List ℕ)
+pieces_of_rest separator None = []
+pieces_of_rest separator (Some rest) = pieces_of separator rest.now
+
+abbrev pub pieces_left : Pieces → List (List ℕ)
+pieces_left pieces = pieces_of_rest pieces.separator pieces.rest
+
+-- What the code returns, in the terms of the specifications.
+
+-- a list of members, or an error
+abbrev pub members_view : {E : Type 0} → Result (ArrayVec Sheet) E → Result (List Sheet) E
+members_view (Ok members) = Ok members.items
+members_view (Err fault) = Err fault

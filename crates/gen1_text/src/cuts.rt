@@ -76,7 +76,7 @@ pub(crate) struct Pieces<'a> {
 }
 
 impl<'a> Pieces<'a> {
-    ghost use Rattle.gen1_text.specs.PieceLists.{pieces_left};
+    ghost use Rattle.gen1_text.specs.Words.{pieces_left};
 
     pub(crate) fn new(text: &'a [u8], separator: u8) -> Self
         ensures { pieces_left result ≡ pieces_of separator text.now }
@@ -97,7 +97,7 @@ pub(crate) fn piece_count(text: &[u8], separator: u8) -> usize
 
 impl<'a> Iterator for Pieces<'a> {
     ghost use Rattle.std.specs.Iterator.{YieldsFirstRef, item_count};
-    ghost use Rattle.gen1_text.specs.PieceLists.{pieces_left};
+    ghost use Rattle.gen1_text.specs.Words.{pieces_left};
 
     type Item = &'a [u8];
 

@@ -1,7 +1,7 @@
 //! Teams from packed lines (docs/TEAM_TEXT.md, "Packed line").
 ghost use Rattle.std.specs.Prelude.{◌≡◌};
 ghost use Rattle.gen1_text.specs.Packed.{in_field, members_packed, team_packed, unpacked};
-ghost use Rattle.gen1_text.specs.Answers.{members_view};
+ghost use Rattle.gen1_text.specs.Words.{members_view};
 
 use crate::cuts::{Pieces, piece_count};
 use crate::fault::{MemberFault, PackedFault};

@@ -1,6 +1,6 @@
 //! The fields of a member in a packed line (docs/TEAM_TEXT.md, "Packed line").
 ghost use Rattle.std.specs.Prelude.{◌≡◌};
-ghost use Rattle.gen1_text.specs.PackedFields.{field, number_if_any, six_numbers, species_field, with_moves, with_packed_evs, with_packed_ivs, with_packed_level, without_item};
+ghost use Rattle.gen1_text.specs.Packed.{field, number_if_any, six_numbers, species_field, with_moves, with_packed_evs, with_packed_ivs, with_packed_level, without_item};
 ghost use Rattle.gen1_text.specs.Words.{pieces_of};
 
 use crate::cuts::{Pieces, piece_count};
@@ -25,7 +25,7 @@ pub(crate) fn field(member: &[u8], number: usize) -> &[u8]
 }
 
 // The species, or the nickname if that is empty.
-#[tactic(auto, unfolding(crate::specs::PackedFields::species_field))]
+#[tactic(auto, unfolding(crate::specs::Packed::species_field))]
 pub(crate) fn species_field(member: &[u8]) -> &[u8]
     ensures { result.now ≡ species_field member.now }
 {
@@ -37,7 +37,7 @@ pub(crate) fn species_field(member: &[u8]) -> &[u8]
     }
 }
 
-#[tactic(auto, unfolding(crate::specs::PackedFields::without_item))]
+#[tactic(auto, unfolding(crate::specs::Packed::without_item))]
 pub(crate) fn without_item(spec: MemberSpec, text: &[u8]) -> Result<MemberSpec, MemberFault>
     ensures { result ≡ without_item text.now spec }
 {
@@ -77,7 +77,7 @@ fn six_numbers(text: &[u8], most: u8) -> Option<Spread>
     Some(spread)
 }
 
-#[tactic(auto, unfolding(crate::specs::PackedFields::number_if_any))]
+#[tactic(auto, unfolding(crate::specs::Packed::number_if_any))]
 fn number_if_any(text: &[u8], most: u8) -> Option<Option<u8>>
     ensures { result ≡ number_if_any most text.now }
 {
@@ -91,7 +91,7 @@ fn number_if_any(text: &[u8], most: u8) -> Option<Option<u8>>
 }
 
 // The EVs of a field: all at the highest if it is empty, and all 0 for a lone 0.
-#[tactic(auto, unfolding(crate::specs::PackedFields::with_packed_evs))]
+#[tactic(auto, unfolding(crate::specs::Packed::with_packed_evs))]
 pub(crate) fn with_packed_evs(spec: MemberSpec, text: &[u8]) -> Result<MemberSpec, MemberFault>
     ensures { result ≡ with_packed_evs text.now spec }
 {
@@ -111,7 +111,7 @@ pub(crate) fn with_packed_evs(spec: MemberSpec, text: &[u8]) -> Result<MemberSpe
     Ok(spec)
 }
 
-#[tactic(auto, unfolding(crate::specs::PackedFields::with_packed_ivs))]
+#[tactic(auto, unfolding(crate::specs::Packed::with_packed_ivs))]
 pub(crate) fn with_packed_ivs(spec: MemberSpec, text: &[u8]) -> Result<MemberSpec, MemberFault>
     ensures { result ≡ with_packed_ivs text.now spec }
 {
@@ -126,7 +126,7 @@ pub(crate) fn with_packed_ivs(spec: MemberSpec, text: &[u8]) -> Result<MemberSpe
     Ok(spec)
 }
 
-#[tactic(auto, unfolding(crate::specs::PackedFields::with_packed_level))]
+#[tactic(auto, unfolding(crate::specs::Packed::with_packed_level))]
 pub(crate) fn with_packed_level(spec: MemberSpec, text: &[u8]) -> Result<MemberSpec, MemberFault>
     ensures { result ≡ with_packed_level text.now spec }
 {

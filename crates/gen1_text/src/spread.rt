@@ -11,7 +11,7 @@ use crate::numbers::number_in;
 pub(crate) type Spread = [Option<u8>; 6];
 
 // What parts between slashes say, each a number of at most `most` and a stat.
-#[tactic(auto, using(crate::proofs::SpreadLemmas::parts_stop, crate::proofs::SpreadLemmas::parts_go, crate::proofs::SpreadLemmas::parts_end))]
+#[tactic(auto, using(crate::proofs::TextLemmas::parts_stop, crate::proofs::TextLemmas::parts_go, crate::proofs::TextLemmas::parts_end))]
 pub(crate) fn spread_in(text: &[u8], most: u8) -> Option<Spread>
     ensures { result ≡ with_parts most nothing_said (pieces_of 47 text.now) }
 {

@@ -1,7 +1,7 @@
 //! Teams from the export text of a team builder (docs/TEAM_TEXT.md, "Export text").
 ghost use Rattle.std.specs.Prelude.{◌≡◌};
 ghost use Rattle.gen1_text.specs.Texts.{at_line, members_told, parts_members, team_told};
-ghost use Rattle.gen1_text.specs.Answers.{members_view};
+ghost use Rattle.gen1_text.specs.Words.{members_view};
 
 use crate::cuts::Pieces;
 use crate::fault::{MemberFault, TextFault};

@@ -7,8 +7,7 @@ use Rattle.gen1_tables.specs.declared.effect.Effect.{Effect}
 use Rattle.gen1_tables.specs.declared.effect.Effect.TheVariants as effects
 use Rattle.gen1_tables.specs.declared.element.Element.TheVariants as elements
 use Rattle.gen1_tables.specs.Moves.{MoveRow, move_row, move_rows}
-use Rattle.gen1_rolls.specs.Looks.{limit_of}
-use Rattle.gen1_rolls.specs.Streams.{byte_at}
+use Rattle.gen1_rolls.specs.Streams.{limit_of, byte_at}
 use Rattle.gen1_stats.specs.Members.{Member, is_living}
 use Rattle.gen1_machine.specs.declared.side.Side.TheVariants.{One, Two}
 use Rattle.gen1_machine.specs.declared.event.DamageSource.{DamageSource}
@@ -34,7 +33,7 @@ use Rattle.gen1_machine.specs.Sides.{other}
 use Rattle.gen1_machine.specs.State.{Terms, active_in, changed_member, health_in, hurt_by, party, who_in, with_member, with_party}
 use Rattle.gen1_machine.proofs.Sound.{planned-sound}
 use Rattle.gen1_hits.specs.Planned.{Follows}
-use Rattle.gen1_turn.specs.ActionSteps.{late_part}
+use Rattle.gen1_turn.specs.Action.{late_part}
 use Rattle.gen1_turn.specs.declared.action.damage.Way.{Way}
 use Rattle.gen1_turn.specs.declared.action.damage.Way.TheVariants as ways
 use Rattle.gen1_turn.specs.Damage.{AlikeDamage, LikeDamage, LikeUsual, cuts, edge_of, limit_in, way_of}

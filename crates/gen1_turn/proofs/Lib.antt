@@ -1,9 +1,5 @@
--- How an action begins and ends.
-pub mod ActionEnds
 -- How the damage of a move is found, and which damages have the same effect.
 pub mod Damage
--- The number of a move, and PP.
-pub mod Used
 -- Who lives in a turn.
 pub mod Living
 -- Where no trapping is on.
@@ -12,5 +8,3 @@ pub mod Trapping
 pub mod Turns
 -- How an action comes to its roll.
 pub mod TwoParts
--- The words of contracts, spelled out.
-mod Same

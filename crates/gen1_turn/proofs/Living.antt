@@ -27,18 +27,16 @@ use Rattle.gen1_machine.specs.SwitchingIn.{send_out, sent_out, with_sent_out}
 use Rattle.gen1_machine.specs.Turn.{do_part, is_cut, set_picked, Acts, Sends}
 use Rattle.gen1_machine.specs.Plans.{InRange}
 use Rattle.gen1_machine.specs.Valid.{IsAsked, IsStarted, StandsAs}
-use Rattle.gen1_machine.proofs.Bench.{alike-free, alike-itself, between-free, Alike, Between, FreeParty, MaySend}
+use Rattle.gen1_machine.proofs.Turns.{alike-free, alike-itself, between-free, Alike, Between, FreeParty, MaySend, part-suffers, send_one, sent-place}
 use Rattle.gen1_machine.proofs.Free.{begin-free}
-use Rattle.gen1_machine.proofs.Keeps.{note-keeps, on_conditions-keeps, then-keeps, Keeps, Spares}
-use Rattle.gen1_machine.proofs.Leads.{choose-false, given-leads, keeps-leads, then-goes, then-leads, Leads}
-use Rattle.gen1_machine.proofs.Promised.{offered-promises}
-use Rattle.gen1_machine.proofs.RequestsStand.{outcome-stays}
+use Rattle.gen1_machine.proofs.Keeps.{note-keeps, on_conditions-keeps, then-keeps, Keeps, Spares, choose-false, given-leads, keeps-leads, then-goes, then-leads, Leads}
+use Rattle.gen1_machine.proofs.Fitting.{offered-promises}
+use Rattle.gen1_machine.proofs.Settled.{outcome-stays}
 use Rattle.gen1_machine.proofs.Steady.{residual-steady, with_penalty_of-leaves, Hurts, Steady}
-use Rattle.gen1_machine.proofs.Turns.{part-suffers, send_one, sent-place}
-use Rattle.gen1_machine.proofs.ValidTurns.{room-free, sends-room}
-use Rattle.gen1_status.specs.ResidualDamage.{takes_hp}
+use Rattle.gen1_machine.proofs.ValidSteps.{room-free, sends-room}
+use Rattle.gen1_status.specs.Statuses.{takes_hp}
 use Rattle.gen1_switching.specs.Updates.{Plays}
-use Rattle.gen1_switching.proofs.OfferedChoices.{both_move, comes_offered, offered_by}
+use Rattle.gen1_switching.proofs.Stepped.{both_move, comes_offered, offered_by}
 use Rattle.gen1_turn.specs.TurnParts.{Brings, MayCome}
 
 -- A member has fallen, or the battle is over

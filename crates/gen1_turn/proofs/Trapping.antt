@@ -25,7 +25,7 @@ use Rattle.gen1_machine.specs.Valid.{effect_of, IsUnderway}
 use Rattle.gen1_machine.proofs.Keeps.{keeps_rules, Keeps, Spares}
 use Rattle.gen1_machine.proofs.Sound.{planned-holds, replanned, with_plan-is}
 use Rattle.gen1_machine.proofs.Steady.{with_penalty_of-leaves}
-use Rattle.gen1_machine.proofs.ValidTurns.{with_plan-other}
+use Rattle.gen1_machine.proofs.ValidSteps.{with_plan-other}
 
 -- Residual damage leaves what is underway
 

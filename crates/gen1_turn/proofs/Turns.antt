@@ -1,35 +1,45 @@
--- How the parts of a turn follow one another, and what is planned meanwhile.
-use Rattle.std.proofs.Common.{◌+◌, ◌≡◌}
+-- How the parts of a turn follow one another, how an action ends, and what is planned meanwhile.
+use Rattle.std.proofs.Common.{◌+◌, ◌≡◌, Bool, false, refl, if◌then◌else◌, set, ◌&&◌, ◌-◌}
 use Rattle.std.proofs.lemmas.Bool.{false≢true}
-use Rattle.gen1_layout.proofs.Words.{Bool, Frame, Parts, Phase, Progress, Shows, ShowsDrawn, Side, Telling, active_in, ap, choose-false, choose-true, draw, drawn_goes, false, given, goes, if_not, if_so, length, member_in, nat_lt, on_active, on_conditions, on_field, refl, stay, stays, still, subst, sym, then-goes, true, ℕ, ◌∙◌, ◌▸◌}
-use Rattle.gen1_rolls.specs.Draws.{Drawing, Source}
+use Rattle.gen1_layout.proofs.Words.{Shows, ShowsDrawn, active_in, ap, choose-false, choose-true, draw, drawn_goes, given, goes, if_not, if_so, length, member_in, nat_lt, on_active, on_conditions, on_field, stay, stays, still, subst, sym, then-goes, true, ℕ, ◌∙◌, ◌▸◌, Active, Field, IsBetween, List, Member, None, Some, changed_member, nat_le, nobody}
+use Rattle.gen1_rolls.specs.Draws.{Drawing, Source, Ref, Since}
 use Rattle.gen1_rolls.specs.Streams.{byte_at}
 use Rattle.gen1_machine.specs.declared.choice.Choice.{Choice}
-use Rattle.gen1_machine.specs.declared.choice.Choice.TheVariants as choices
 use Rattle.gen1_machine.specs.declared.picks.Pick.{Pick}
 use Rattle.gen1_machine.specs.declared.picks.Pick.TheVariants.{Continue, Held, Idle, Use}
 use Rattle.gen1_machine.specs.declared.side.Side.TheVariants.{One, Two}
 use Rattle.gen1_machine.specs.Conditions.{ActiveConditions, without_flinch, without_trapping}
-use Rattle.gen1_machine.specs.State.{changed_active, changed_conditions, with_picked_move, Terms}
-use Rattle.gen1_machine.specs.Progress.{on_action, underway, unless}
+use Rattle.gen1_machine.specs.State.{changed_active, changed_conditions, with_picked_move, Terms, with_current_move, is_over}
+use Rattle.gen1_machine.specs.Progress.{on_action, underway, unless, Phase, Progress, active}
 use Rattle.gen1_machine.specs.Picks.{pick_in, picked_after}
 use Rattle.gen1_machine.specs.ResidualDamage.{residual}
-use Rattle.gen1_machine.specs.Ruling.{Ruling}
-use Rattle.gen1_machine.specs.Action.{begin}
+use Rattle.gen1_machine.specs.Ruling.{Ruling, ruling_of}
+use Rattle.gen1_machine.specs.Action.{begin, resume}
 use Rattle.gen1_machine.specs.TurnOrder.{in_order, in_order_of_rank, rank_in, toss}
-use Rattle.gen1_machine.specs.Turn.{both_pick, both_switch, do_parts, end_spent_trapping, end_turn, is_cut, is_spent, one_picks, play_turn, set_picked}
+use Rattle.gen1_machine.specs.Turn.{both_pick, both_switch, do_parts, end_spent_trapping, end_turn, is_cut, is_spent, one_picks, play_turn, set_picked, Acts as ActsPart, do_part}
 use Rattle.gen1_machine.specs.Valid.{IsUsedMove}
 use Rattle.gen1_machine.specs.Plans.{FitsPick, InRange, IsPlanned, Plan, PlanOf}
 use Rattle.gen1_machine.proofs.Keeps.{on_conditions-keeps, Keeps}
 use Rattle.gen1_machine.proofs.Sound.{party-valid, planned-holds, planned-sound}
 use Rattle.gen1_machine.proofs.SoundWalk.{conditions-spared}
 use Rattle.gen1_machine.proofs.Tame.{without_flinch-tame}
-use Rattle.gen1_machine.proofs.ValidTurns.{pick-plan, Picked}
-use Rattle.gen1_layout.specs.Operations.{Does, between}
+use Rattle.gen1_machine.proofs.ValidSteps.{pick-plan, Picked}
+use Rattle.gen1_layout.specs.Operations.{Does, between, scene}
 use Rattle.gen1_hits.specs.declared.known.Known.{Known}
-use Rattle.gen1_hits.specs.Knowing.{begun, knowing, with_broke, ShowsOver}
+use Rattle.gen1_hits.specs.Knowing.{begun, knowing, with_broke, ShowsOver, ShowsKnown}
 use Rattle.gen1_hits.specs.Planned.{Follows}
-use Rattle.gen1_turn.specs.TurnParts.{suffering, Ends, EndsCut, LeavesRest, PartLeaves}
+use Rattle.gen1_turn.specs.TurnParts.{suffering, Ends, EndsCut, LeavesRest, PartLeaves, ActsAndSuffers, DoesTurn}
+use Rattle.gen1_machine.specs.declared.side.Side.{Side}
+use Rattle.gen1_layout.specs.Parts.{Parts}
+use Rattle.gen1_layout.specs.Shows.{Frame, Telling}
+use Rattle.gen1_turn.specs.Action.{Acts, DoesParts, acting, picked, planning, ready}
+use Rattle.std.proofs.lemmas.List.{set-get_or}
+use Rattle.gen1_machine.proofs.Acts.{unchanged}
+use Rattle.gen1_status.proofs.Statuses.{at_most}
+use Rattle.gen1_status.specs.declared.gate_answer.Gate.{Gate}
+use Rattle.gen1_status.specs.declared.gate_answer.Gate.TheVariants.{Fault, Go, Stop}
+use Rattle.gen1_status.specs.Gate.{TellsDrawn, stopped_by}
+use Rattle.gen1_machine.specs.declared.choice.Choice.TheVariants as choices
 
 -- Residual damage, and whether the turn is cut after it
 
@@ -228,3 +238,94 @@ unfolding play_turn stay
 play-first_passes r x (choices.Move j) p ex = rw ex refl
 play-first_passes r x (choices.Switch j) p ex = rw ex refl
 play-first_passes r x choices.Pass p ex = rw ex refl
+
+-- The words of an action in a turn, spelled out (gen1_layout and gen1_hits, `Same`, have those of every operation).
+
+module _ {S : Type 0} (tells : S → Telling) (battle : Ref Parts) (events : Ref S) (known : Ref Known) {A : Type 0} (d : Drawing A) (random : Ref A) where
+  pub same-parts : (side : Side) (pick : Pick) (b : Bool) (phase : Ruling → Phase) → DoesParts d random (ready side pick) (acting known (scene tells battle events)) b phase
+      ≡ ((since : Since d random.exit.now) (g : Frame) (p : Progress) (plan : Side → Plan) → FitsPick pick (plan side) → Follows g.setting.terms plan p → p.action.letting_go ≡ false
+      → ShowsKnown d since.source known.entry.now g battle.entry.now (tells events.entry.now) random.entry.now false p
+      → ShowsOver d since.source known.exit.now g battle.exit.now (tells events.exit.now) random.exit.now b (phase (ruling_of g.setting.terms) p))
+  same-parts side pick b phase = refl
+
+  pub same-acts : (side : Side) (pick : Pick) (b : Bool) (phase : Ruling → Phase) → Acts d random (picked side pick) (acting known (scene tells battle events)) b phase
+      ≡ ((since : Since d random.exit.now) (g : Frame) (p : Progress) (plan : Side → Plan) → FitsPick pick (plan side) → Follows g.setting.terms plan p
+      → ShowsOver d since.source known.entry.now g battle.entry.now (tells events.entry.now) random.entry.now false p
+      → ShowsOver d since.source known.exit.now g battle.exit.now (tells events.exit.now) random.exit.now b (phase (ruling_of g.setting.terms) p))
+  same-acts side pick b phase = refl
+
+  pub same-suffers : (side : Side) (pick : Pick) (b : Bool) → ActsAndSuffers d random side pick (acting known (scene tells battle events)) b
+      ≡ ((since : Since d random.exit.now) (g : Frame) (p : Progress) (plan : Side → Plan) → FitsPick pick (plan side) → Follows g.setting.terms plan p
+      → ShowsOver d since.source known.entry.now g battle.entry.now (tells events.entry.now) random.entry.now false p
+      → PartLeaves (ShowsOver d since.source known.exit.now g battle.exit.now (tells events.exit.now) random.exit.now) b (do_part (ruling_of g.setting.terms) (ActsPart side pick)) side p)
+  same-suffers side pick b = refl
+
+  pub same-turn : (holds : (Side → Plan) → Progress → Type 0) (cut : Bool) (phase : Ruling → Phase) → DoesTurn d random (planning holds) (acting known (scene tells battle events)) cut phase
+      ≡ ((since : Since d random.exit.now) (g : Frame) (p : Progress) (plan : Side → Plan) → holds plan p → Follows g.setting.terms plan p
+      → ShowsOver d since.source known.entry.now g battle.entry.now (tells events.entry.now) random.entry.now false p
+      → EndsCut d since.source known.exit.now g battle.exit.now (tells events.exit.now) random.exit.now cut (phase (ruling_of g.setting.terms) p))
+  same-turn holds cut phase = refl
+
+-- The number of a used move, and a member that stays as it is.
+
+-- The move of a number
+
+pub made : (n id : ℕ) → (if nat_le 1 n && nat_le n 165 then Some n else None) ≡ Some id → id ≡ n
+made n id e = by (nat_le 1 n && nat_le n 165) e
+  where
+    by : (b : Bool) → (if b then Some n else None) ≡ Some id → id ≡ n
+    by true e = cc
+    by false e = cc
+
+pub some_made : (n : ℕ) → IsBetween 1 165 n → (if nat_le 1 n && nat_le n 165 then Some n else None) ≡ None → ⊥
+some_made n h e =
+    let low : nat_le 1 n ≡ true = at_most 1 n h.0 in
+    let high : nat_le n 165 ≡ true = at_most n 165 h.1 in
+    let gone : Some n ≡ None = rw (low, high) at e in cc
+
+-- A change that leaves a member as it is
+
+pub unchanged-member : (s : Side) (change : Member → Member) (f : Field) → change (member_in s f) ≡ member_in s f → changed_member s change f ≡ f
+unfolding changed_member
+unchanged-member One change f same =
+    ap (λ (m : Member). record f { one = record f.one { members = set f.one.members (f.one.active.place - 1) m } }) same
+    ∙ ap (λ (ms : List Member). record f { one = record f.one { members = ms } }) (set-get_or f.one.members (f.one.active.place - 1) nobody)
+unchanged-member Two change f same =
+    ap (λ (m : Member). record f { two = record f.two { members = set f.two.members (f.two.active.place - 1) m } }) same
+    ∙ ap (λ (ms : List Member). record f { two = record f.two { members = ms } }) (set-get_or f.two.members (f.two.active.place - 1) nobody)
+
+-- A pick without a move keeps the current move, and the picked move unless the foe holds the member
+
+same_picked : (s : Side) (f : Field) → changed_active s (with_picked_move (active_in s f).picked_move) f ≡ f
+unfolding changed_active with_picked_move
+same_picked One f = refl
+same_picked Two f = refl
+
+module _ {g : Frame} {parts : Parts} {events : Telling} (s : Side) (p : Progress) where
+  pub still_current : Shows g parts events false p → Shows g parts events false (given (active s) (λ (a : Active). on_active s (with_current_move a.current_move)) p)
+  unfolding given on_active on_field
+  still_current h = subst (λ (f : Field). Shows g parts events false (record p { field = f })) (sym (unchanged s p.field)) h
+
+  pub still_picked : Shows g parts events false p → Shows g parts events false (given (active s) (λ (a : Active). on_active s (with_picked_move a.picked_move)) p)
+  unfolding given on_active on_field
+  still_picked h = subst (λ (f : Field). Shows g parts events false (record p { field = f })) (sym (same_picked s p.field)) h
+
+-- An action after the gate, and its end.
+
+module _ {A : Type 0} {d : Drawing A} {source : Source A} where
+  -- An action that the gate ends may have broken a substitute.
+  pub over_gate : (k : Known) (g : Frame) {parts : Parts} {events : Telling} {now : A} {p q : Progress} (answer : Gate) → stopped_by answer ≡ true
+      → TellsDrawn d source (knowing k g) parts events now answer p q → ShowsOver d source k g parts events now true q
+  over_gate k g Go e a = cc
+  over_gate k g {q = q} Stop e a = (q.action.broke, a.shows)
+  over_gate k g {q = q} Fault e a = (q.action.broke, a.shows)
+
+  pub resumed : {g : Frame} {parts : Parts} {events : Telling} {now : A} {b b' : Bool} {p : Progress} → b' ≡ is_over p.field.outcome
+      → ShowsDrawn d source g parts events now b p → ShowsDrawn d source g parts events now b' (resume p)
+  unfolding resume
+  resumed e a =
+      let h = a.shows in
+      record {
+        shows = record { within = h.within; written = h.written; ends = sym e; stream = h.stream; drawn = h.drawn; skips = h.skips; action = h.action };
+        stands = a.stands;
+      }

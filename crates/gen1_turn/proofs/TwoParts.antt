@@ -22,11 +22,11 @@ use Rattle.gen1_machine.proofs.Trees.{HasTree, RulingHasTrees, after-tree, then-
 use Rattle.gen1_machine.proofs.TreeWalk.{hit_or_miss-tree, keep_accuracy-tree, late_effect-tree, resume-tree, strike-tree, vary-tree}
 use Rattle.gen1_hits.specs.declared.known.Known.{Known}
 use Rattle.gen1_hits.specs.Knowing.{ShowsKnown, ShowsOver, action_of}
-use Rattle.gen1_hits.specs.UsualDamage.{has_own_damage, has_usual_damage}
+use Rattle.gen1_hits.specs.DamageNumbers.{has_own_damage, has_usual_damage}
 use Rattle.gen1_hits.proofs.Knowledge.{stops-then}
 use Rattle.gen1_turn.specs.declared.action.damage.Way.TheVariants as ways
 use Rattle.gen1_turn.specs.declared.action.two_parts.Roll.{Roll}
-use Rattle.gen1_turn.specs.ActionSteps.{late_part}
+use Rattle.gen1_turn.specs.Action.{late_part}
 use Rattle.gen1_turn.specs.Damage.{LikeDamage, way_of}
 use Rattle.gen1_turn.specs.TwoParts.{IsFresh, from_roll, from_test, known_at}
 use Rattle.gen1_turn.proofs.Damage.{damage-by, late-power}

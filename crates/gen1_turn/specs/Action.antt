@@ -1,8 +1,8 @@
 -- What the action of a side shows, by its pick (docs/MECHANICS.md, "Action"). If something is shown before it, with
 -- what is known of the last action, the result is shown with what is known after it. A broken substitute is an
 -- exception, since it doesn't matter after an action is over.
-use Rattle.std.specs.Prelude.{◌≡◌}
-use Rattle.gen1_layout.specs.Words.{Bool, Frame, Phase, Progress, Side, Telling, false}
+use Rattle.std.specs.Prelude.{◌≡◌, ◌||◌}
+use Rattle.gen1_layout.specs.Words.{Bool, Frame, Phase, Progress, Side, Telling, false, stop, ◌▸◌}
 use Rattle.gen1_rolls.specs.Draws.{Drawing, Ref, Since}
 use Rattle.gen1_machine.specs.declared.picks.Pick.{Pick}
 use Rattle.gen1_machine.specs.Ruling.{Ruling, ruling_of}
@@ -12,6 +12,13 @@ use Rattle.gen1_layout.specs.Parts.{Parts}
 use Rattle.gen1_hits.specs.declared.known.Known.{Known}
 use Rattle.gen1_hits.specs.Knowing.{ShowsKnown, ShowsOver, knowing, with_broke}
 use Rattle.gen1_hits.specs.Planned.{Follows}
+use Rattle.gen1_machine.specs.Action.{damage_of, lands_at_once, lets_energy_go, prelude, strike}
+use Rattle.gen1_machine.specs.EarlyEffects.{early_effect, is_early}
+use Rattle.gen1_machine.specs.LateEffects.{is_late, late_effect}
+use Rattle.gen1_machine.specs.ManyHits.{hits, hits_end}
+use Rattle.gen1_machine.specs.Moves.{Move}
+use Rattle.gen1_machine.specs.Progress.{only, unless}
+use Rattle.gen1_machine.specs.SideEffects.{side_effect}
 
 -- A scene with the value of what is known. Once an action is over, whether a substitute broke in it is left open.
 abbrev pub Acting : Type 1
@@ -48,3 +55,21 @@ Acts d random premise s stopped phase = s λ parts events k parts' events' k'.
     (since : Since d random.exit.now) (g : Frame) (p : Progress) → premise g p
     (ShowsOver d since.source k g parts events random.entry.now false p
     → ShowsOver d since.source k' g parts' events' random.exit.now stopped (phase (ruling_of g.setting.terms) p))
+
+-- The phases of an action from some step on, as in `carry_out` and `lead_up` of the machine (docs/MECHANICS.md,
+-- "Action").
+
+-- After the move is used.
+abbrev pub begin_move : Side → Move → Phase
+begin_move s move = only (is_early move.effect) (early_effect s move move.effect ▸ stop) ▸ prelude s move
+
+abbrev pub late_part : Ruling → Side → Move → Phase
+late_part r s move = unless lets_energy_go (only (is_late move.effect) (late_effect r s move move.effect ▸ stop))
+
+-- After the lead-up.
+abbrev pub damage_and_strike : Ruling → Side → Move → Phase
+damage_and_strike r s move = unless (lands_at_once move) (damage_of s move move.effect) ▸ late_part r s move ▸ strike r s move
+
+-- After the move is known to hit.
+abbrev pub hits_with_effect : Ruling → Side → Move → Phase
+hits_with_effect r s move = hits s move ▸ unless (λ p. lets_energy_go p || hits_end s p) (side_effect r s move move.effect)

@@ -4,7 +4,7 @@ use Rattle.std.specs.Prelude.{Bool, None, Option, Some, false, min, true, â„•, â
 use Rattle.gen1_tables.specs.declared.effect.Effect.{Effect}
 use Rattle.gen1_tables.specs.declared.effect.Effect.TheVariants as effects
 use Rattle.gen1_rolls.specs.Draws.{Drawing, Ref, Since}
-use Rattle.gen1_rolls.specs.Looks.{limit_of}
+use Rattle.gen1_rolls.specs.Streams.{limit_of}
 use Rattle.gen1_layout.specs.Operations.{Scene}
 use Rattle.gen1_layout.specs.Shows.{Frame, ShowsDrawn}
 use Rattle.gen1_layout.specs.Words.{Field, Phase, Progress, Side, conditions_in, member_in, other}

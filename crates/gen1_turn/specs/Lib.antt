@@ -1,7 +1,5 @@
 -- What an action shows.
 pub mod Action
--- The phases of an action from some step on.
-pub mod ActionSteps
 -- How the damage of a move is found, and which damages have the same effect.
 pub mod Damage
 -- What the parts of a turn show.

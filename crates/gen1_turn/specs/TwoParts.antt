@@ -14,12 +14,11 @@ use Rattle.gen1_machine.specs.Ruling.{Ruling, ruling_of}
 use Rattle.gen1_machine.specs.Turn.{do_part, Acts}
 use Rattle.gen1_hits.specs.declared.known.Known.{Known}
 use Rattle.gen1_hits.specs.Knowing.{ShowsKnown, ShowsOver, action_of, nothing_yet}
-use Rattle.gen1_hits.specs.UsualDamage.{has_usual_damage}
+use Rattle.gen1_hits.specs.DamageNumbers.{has_usual_damage}
 use Rattle.gen1_turn.specs.declared.action.two_parts.Acted.{Acted}
 use Rattle.gen1_turn.specs.declared.action.two_parts.Acted.TheVariants as acted
 use Rattle.gen1_turn.specs.declared.action.two_parts.Roll.{Roll}
-use Rattle.gen1_turn.specs.Action.{Acting, picked}
-use Rattle.gen1_turn.specs.ActionSteps.{late_part}
+use Rattle.gen1_turn.specs.Action.{Acting, picked, late_part}
 use Rattle.gen1_turn.specs.Damage.{LikeDamage}
 use Rattle.gen1_turn.specs.TurnParts.{PartLeaves}
 

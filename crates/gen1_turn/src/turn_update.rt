@@ -10,7 +10,7 @@ ghost use Rattle.gen1_machine.specs.Falls.{close};
 ghost use Rattle.gen1_machine.specs.Ruling.{ruling_of};
 ghost use Rattle.gen1_machine.specs.Turn.{is_cut, turn};
 ghost use Rattle.gen1_machine.specs.Step.{close_update};
-ghost use Rattle.gen1_layout.specs.Within.{Stands, setting_of};
+ghost use Rattle.gen1_layout.specs.Shows.{Stands, setting_of};
 ghost use Rattle.gen1_switching.specs.Updates.{Plays, UpdatesDrawing, drawing_on};
 
 mod by_side;

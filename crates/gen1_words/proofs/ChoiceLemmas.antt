@@ -2,7 +2,7 @@
 use Rattle.std.proofs.Common.{Bool, Err, List, None, Ok, Option, Result, Some, [], ap, arith, cond, false, filter, if◌then◌else◌, inl, inr, option_map, refl, subst, sym, true, ℕ, ◌&&◌, ◌==◌, ◌≡◌, ◌∙◌, ◌∷◌, ◌⊎◌}
 use Rattle.gen1_layout.proofs.Storing.{within_of}
 use Rattle.gen1_layout.specs.Parts.{Parts}
-use Rattle.gen1_layout.specs.Within.{Stands, Within, setting_of}
+use Rattle.gen1_layout.specs.Shows.{Stands, Within, setting_of}
 use Rattle.gen1_machine.specs.OfferedChoices.{offered, offered_for}
 use Rattle.gen1_machine.specs.State.{Field, State, is_over, request_of}
 use Rattle.gen1_machine.specs.Step.{is_among}
@@ -14,7 +14,7 @@ use Rattle.gen1_machine.specs.declared.terms.Outcome.{Outcome}
 use Rattle.gen1_machine.specs.declared.terms.Outcome.TheVariants as outcomes
 use Rattle.gen1_machine.specs.declared.terms.Request.{Request}
 use Rattle.gen1_machine.specs.declared.terms.Request.TheVariants as requests
-use Rattle.gen1_offers.proofs.BetweenUpdates.{asks_nothing}
+use Rattle.gen1_offers.proofs.OfferedSet.{asks_nothing}
 use Rattle.gen1_text.specs.Ids.{move_called, species_called}
 use Rattle.gen1_words.specs.ChoiceWords.{choice_of, fits, if_offered, only, place_said, slot_said}
 use Rattle.gen1_words.specs.declared.chosen.WordsFault.{WordsFault}

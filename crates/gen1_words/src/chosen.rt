@@ -1,6 +1,6 @@
 //! The choice of a side that words say (docs/PROGRAM.md, "Text in place of JSON"; docs/MECHANICS.md, "Offered choices").
 ghost use Rattle.std.specs.Prelude.{MatchOption, [], filter, ◌&&◌, ◌≡◌, ◌≤◌, ◌∷◌};
-ghost use Rattle.gen1_layout.specs.Within.{Stands, setting_of};
+ghost use Rattle.gen1_layout.specs.Shows.{Stands, setting_of};
 ghost use Rattle.gen1_layout.specs.Words.{Field, Reads, Setting, Within};
 ghost use Rattle.gen1_machine.specs.OfferedChoices.{offered};
 ghost use Rattle.gen1_machine.specs.State.{State};

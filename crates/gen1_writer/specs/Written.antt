@@ -1,12 +1,13 @@
 -- What is written, what is refused, and what is read back (docs/TEAM_TEXT.md, "Writing").
-use Rattle.std.specs.Prelude.{Bool, List, None, Option, Some, [], if◌then◌else◌, not, option_map, ℕ, ◌*◌, ◌+◌, ◌==◌, ◌∷◌}
+use Rattle.std.specs.Prelude.{Bool, List, None, Option, Some, [], if◌then◌else◌, not, option_map, ℕ, ◌*◌, ◌+◌, ◌==◌, ◌∷◌, codes, ◌++◌}
 use Rattle.std.specs.List.{list_any}
 use Rattle.std.specs.Option.{option_or}
-use Rattle.gen1_stats.specs.Sheets.{Sheet}
-use Rattle.gen1_stats.specs.Teams.{dv, team_refusal}
-use Rattle.gen1_writer.specs.Numbers.{ev_at}
+use Rattle.gen1_stats.specs.Teams.{Sheet, dv, team_refusal}
+use Rattle.gen1_writer.specs.Export.{ev_at}
 use Rattle.gen1_writer.specs.declared.fault.WriteFault.{WriteFault}
 use Rattle.gen1_writer.specs.declared.fault.WriteFault.TheVariants.{PpUps, Team}
+use Rattle.std.specs.Fmt.{decimal}
+use Rattle.gen1_stats.specs.Refusals.{sentence_of}
 
 -- whether a move has a number of PP ups other than three
 abbrev pub has_other_ups : Sheet → Bool
@@ -31,3 +32,9 @@ as_read s = record s {
   dvs = dv 0 s ∷ dv 1 s ∷ dv 2 s ∷ dv 3 s ∷ [];
   exp = exp_read 0 s ∷ exp_read 1 s ∷ exp_read 2 s ∷ exp_read 3 s ∷ exp_read 4 s ∷ [];
 }
+
+-- The texts of the refusals of a writer (docs/TEAM_TEXT.md, "Writing").
+
+abbrev pub write_words : WriteFault → List ℕ
+write_words (Team refusal) = sentence_of refusal
+write_words (PpUps member) = codes "member " ++ decimal member ++ codes ": expected three PP ups for each move, since a text has none"

@@ -1,8 +1,7 @@
 //! Members and teams as export text (docs/TEAM_TEXT.md, "Writing").
 ghost use Rattle.std.specs.Prelude.{All, length, map, ◌++◌, ◌+◌, ◌≡◌, ◌≤◌};
 ghost use Rattle.arrayvec.specs.ArrayVec.{array_vec_len};
-ghost use Rattle.gen1_writer.specs.Numbers.{HasDvs};
-ghost use Rattle.gen1_writer.specs.Export.{block, ended, ev_lines, iv_lines, iv_part, iv_parts, level_lines, move_line, part, text_of};
+ghost use Rattle.gen1_writer.specs.Export.{HasDvs, block, ended, ev_lines, iv_lines, iv_part, iv_parts, level_lines, move_line, part, text_of};
 
 use crate::bytes::{add, add_next, add_number};
 use crate::numbers::{are_all, evs_of, ivs_of};
@@ -24,7 +23,7 @@ pub(crate) fn text_of(specs: &[MemberSpec]) -> ArrayVec<u8, 1356>
 }
 
 // The lines of a member.
-#[tactic(auto, using(crate::proofs::Joins::species_short))]
+#[tactic(auto, using(crate::proofs::Parts::species_short))]
 fn block(spec: &MemberSpec) -> ArrayVec<u8, 225>
     requires { HasDvs spec.now }
     ensures { result.items ≡ block spec.now }
@@ -125,7 +124,7 @@ fn iv_parts(ivs: &[u8; 6]) -> ArrayVec<u8, 60>
     parts
 }
 
-#[tactic(auto, using(crate::proofs::Joins::move_within))]
+#[tactic(auto, using(crate::proofs::Parts::move_within))]
 fn move_lines(moves: &[(MoveId, u8)]) -> ArrayVec<u8, 68>
     requires { length moves.now ≤ 4 }
     ensures { result.items ≡ ended (map move_line moves.now) }

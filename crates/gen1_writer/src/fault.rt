@@ -1,6 +1,6 @@
 //! Why a team has no text (docs/TEAM_TEXT.md, "Writing").
 ghost use Rattle.std.specs.Prelude.{Some, ◌≡◌};
-ghost use Rattle.gen1_writer.specs.Faults.{write_words};
+ghost use Rattle.gen1_writer.specs.Written.{write_words};
 
 use gen1_stats::TeamRefusal;
 use std::error::Error;

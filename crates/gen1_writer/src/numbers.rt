@@ -1,7 +1,7 @@
 //! EVs and IVs as they are written (docs/TEAM_TEXT.md, "EVs and experience", "IVs and DVs").
 ghost use Rattle.std.specs.Prelude.{◌==◌, ◌≡◌, ◌≤◌};
 ghost use Rattle.std.specs.List.{list_all};
-ghost use Rattle.gen1_writer.specs.Numbers.{HasDvs, ev, evs_of, iv, ivs_of};
+ghost use Rattle.gen1_writer.specs.Export.{HasDvs, ev, evs_of, iv, ivs_of};
 
 use gen1_stats::MemberSpec;
 

@@ -3,8 +3,7 @@ ghost use Rattle.std.specs.Prelude.{All, length, ◌++◌, ◌+◌, ◌≡◌, �
 ghost use Rattle.arrayvec.specs.ArrayVec.{array_vec_len};
 ghost use Rattle.gen1_tables.specs.Names.{move_name};
 ghost use Rattle.gen1_text.specs.Ids.{id_of};
-ghost use Rattle.gen1_writer.specs.Numbers.{HasDvs};
-ghost use Rattle.gen1_writer.specs.PackedLine.{iv_place, packed_evs, packed_ivs, packed_level, packed_member, packed_moves, packed_of};
+ghost use Rattle.gen1_writer.specs.Export.{HasDvs, iv_place, packed_evs, packed_ivs, packed_level, packed_member, packed_moves, packed_of};
 
 use crate::bytes::{add, add_next, add_number};
 use crate::numbers::{are_all, evs_of, ivs_of};
@@ -28,7 +27,7 @@ pub(crate) fn packed_of(specs: &[MemberSpec]) -> ArrayVec<u8, 800>
 }
 
 // The twelve fields of a member.
-#[tactic(auto, using(crate::proofs::Joins::species_short))]
+#[tactic(auto, using(crate::proofs::Parts::species_short))]
 fn packed_member(spec: &MemberSpec) -> ArrayVec<u8, 132>
     requires { HasDvs spec.now }
     ensures { result.items ≡ packed_member spec.now }
@@ -57,7 +56,7 @@ fn packed_level(level: u8) -> ArrayVec<u8, 3>
     text
 }
 
-#[tactic(auto, using(crate::proofs::Joins::move_within))]
+#[tactic(auto, using(crate::proofs::Parts::move_within))]
 fn packed_moves(moves: &[(MoveId, u8)]) -> ArrayVec<u8, 60>
     requires { length moves.now ≤ 4 }
     ensures { result.items ≡ packed_moves moves.now }
@@ -75,7 +74,7 @@ fn packed_moves(moves: &[(MoveId, u8)]) -> ArrayVec<u8, 60>
 }
 
 // The letters and digits of a name, in lower case.
-#[tactic(auto, using(crate::proofs::Joins::id_short))]
+#[tactic(auto, using(crate::proofs::Parts::id_short))]
 fn letters(name: &[u8]) -> ArrayVec<u8, 14>
     requires { length name.now ≤ 14 }
     ensures { result.items ≡ id_of name.now }

@@ -4,9 +4,7 @@ ghost use Rattle.gen1_stats.specs.Members.{IsTeam};
 ghost use Rattle.gen1_stats.specs.Teams.{team_of};
 ghost use Rattle.gen1_text.specs.Packed.{members_packed, team_packed};
 ghost use Rattle.gen1_text.specs.Texts.{members_told, team_told};
-ghost use Rattle.gen1_writer.specs.Export.{text_of};
-ghost use Rattle.gen1_writer.specs.Numbers.{HasDvs};
-ghost use Rattle.gen1_writer.specs.PackedLine.{packed_of};
+ghost use Rattle.gen1_writer.specs.Export.{text_of, HasDvs, packed_of};
 ghost use Rattle.gen1_writer.specs.Written.{as_read, has_other_ups, other_ups_from, write_refusal};
 
 use crate::export::text_of;
@@ -46,7 +44,7 @@ pub fn team_to_packed(specs: &[MemberSpec]) -> Result<ArrayVec<u8, 800>, WriteFa
 }
 
 // Why members have no text.
-#[tactic(auto, using(crate::proofs::Writable::has_dvs))]
+#[tactic(auto, using(crate::proofs::Members::has_dvs))]
 fn refusal(specs: &[MemberSpec]) -> Option<WriteFault>
     ensures value { result ≡ write_refusal specs.now }
     ensures allowed { IfNone result (IsTeam (team_of specs.now)) }

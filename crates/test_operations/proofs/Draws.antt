@@ -1,23 +1,22 @@
 -- What is shown when an operation begins on a field, with any generator at any place of a stream; and what the clauses of the
 -- operations of a hit, and of the gate of a member that is free, say then.
 use Rattle.gen1_layout.proofs.Words.{Event, Field, Frame, List, Parts, Progress, Setting, ShowsDrawn, Side, Told, Within, false, refl, ℕ, Action, Bool, None, Option, Some, [], ap, arith, choose, draw, given, nat_le, nat_lt, nat_tests, on_conditions, on_field, set_last_damage, stay, sym, true, with_last_damage, ◌∙◌, ◌▸◌, choose-true, note, stop}
-use Rattle.gen1_rolls.specs.Draws.{Drawing, Source, StandsIn, IsNext}
-use Rattle.gen1_rolls.specs.Streams.{Stream, byte_at, first}
+use Rattle.gen1_rolls.specs.Draws.{Drawing, Source, StandsIn, IsNext, Since}
+use Rattle.gen1_rolls.specs.Streams.{Stream, byte_at, first, iterate, HoldsEveryByte, IsStream}
 use Rattle.gen1_machine.specs.Progress.{new_action, on_action, set_missed, unless_stopped, only}
-use Rattle.std.proofs.Common.{if◌then◌else◌, not, ◌+◌, ◌<◌, ◌≡◌, ◌≤◌}
-use Rattle.gen1_rolls.proofs.Standing.{stands_there}
+use Rattle.std.proofs.Common.{if◌then◌else◌, not, ◌+◌, ◌<◌, ◌≡◌, ◌≤◌, zero, suc, ◌-◌, ◌*◌, ◌%◌}
+use Rattle.gen1_rolls.proofs.Standing.{stands_there, stream_of-is}
 use Rattle.gen1_machine.specs.declared.side.Side.TheVariants.{One}
 use Rattle.gen1_machine.specs.CriticalHits.{critical_bound_in, critical_by, roll_critical, rotated_left_3, set_critical}
 use Rattle.gen1_machine.specs.Damage.{is_factor, rotated_right_1, times_factor}
 use Rattle.gen1_machine.specs.HitTest.{hit_test, hits_below, miss, scaled_in, set_tested, settled_hit_in, test_by}
 use Rattle.gen1_machine.specs.Moves.{Move}
 use Rattle.gen1_machine.specs.State.{first_state, usual_terms, status_in}
-use Rattle.gen1_hits.specs.Factors.{VariesFrom}
-use Rattle.gen1_hits.specs.HitTests.{with_test}
-use Rattle.gen1_hits.proofs.Varying.{vary-draws, vary-keeps}
+use Rattle.gen1_hits.specs.DamageNumbers.{VariesFrom}
+use Rattle.gen1_hits.specs.Knowing.{with_test}
+use Rattle.gen1_hits.proofs.Knowledge.{vary-draws, vary-keeps}
 use Rattle.gen1_stats.specs.declared.status.Status.TheVariants.{Healthy, Paralysed}
 use Rattle.gen1_stats.specs.Members.{is_paralysed, sleeps_or_freezes}
-use Rattle.gen1_machine.specs.declared.event.CantReason.TheVariants as reasons
 use Rattle.gen1_machine.specs.declared.picks.Pick.TheVariants.{Use}
 use Rattle.gen1_machine.specs.declared.picks.UsedMove.{UsedMove}
 use Rattle.gen1_machine.specs.Conditions.{broken_off}
@@ -25,9 +24,11 @@ use Rattle.gen1_machine.specs.Action.{gate_or_held}
 use Rattle.gen1_machine.specs.Gate.{cant, may_be_paralysed, paralysis_test}
 use Rattle.gen1_status.specs.declared.gate_answer.Gate.{Gate}
 use Rattle.gen1_status.specs.declared.gate_answer.Gate.TheVariants.{Fault, Go, Stop}
-use Rattle.gen1_status.specs.Gate.{IsFree, keeps_from_acting}
-use Rattle.gen1_status.specs.GateAnswer.{TellsDrawn, stopped_by}
-use Rattle.gen1_status.proofs.Untested.{gate-acts, gate-free}
+use Rattle.gen1_status.specs.Gate.{IsFree, keeps_from_acting, TellsDrawn, stopped_by}
+use Rattle.gen1_status.proofs.Told.{gate-acts, gate-free}
+use Rattle.gen1_rolls.specs.Steady.{draws_of, own_source, steady, stream_of}
+use Rattle.test_operations.specs.Countdown.{countdown, one_down}
+use Rattle.gen1_machine.specs.declared.event.CantReason.TheVariants as reasons
 
 abbrev pub begun : Field → Stream → ℕ → Side → List Event → Progress
 begun f stream drawn side events = record {
@@ -151,3 +152,30 @@ module _ {A : Type 0} (d : Drawing A) (source : Source A) (n : ℕ) (new : A) (s
         is = sym h.shows.shows.ends ∙ ap (λ (x : Progress). x.stopped) same ∙ t.1;
         stands = stands_there d source new h.shows.stands (ap (λ (x : Progress). x.drawn) same ∙ t.0);
       }
+
+-- The draws of a countdown.
+
+iterate-one_down : (k n : ℕ) → n < 256 → iterate k one_down n ≡ (n + 255 * k) % 256
+iterate-one_down zero n lt = omega arith
+iterate-one_down (suc k) n lt =
+    let e : ((n + 255 * k) % 256 + 255) % 256 ≡ (n + 255 * suc k) % 256 = omega arith in ap one_down (iterate-one_down k n lt) ∙ e
+
+stays_byte : (k n : ℕ) → n < 256 → iterate k one_down n < 256
+stays_byte k n lt = let e = iterate-one_down k n lt in omega (arith, e)
+
+-- Any 256 draws hold every byte, and so do any 1,000.
+full : (n : ℕ) → n < 256 → HoldsEveryByte (draws_of countdown n) 1000
+full n lt b below =
+    let e : (n + 255 * ((n + (256 - b)) % 256)) % 256 ≡ b = omega arith in
+    ((n + (256 - b)) % 256, (omega arith, iterate-one_down ((n + (256 - b)) % 256) n lt ∙ e))
+
+pub countdown_is_stream : (n : ℕ) → n < 256 → IsStream (stream_of countdown n)
+countdown_is_stream n lt = stream_of-is countdown n (λ k. stays_byte k n lt) (λ k. full (iterate k one_down n) (stays_byte k n lt))
+
+-- A countdown's own source, whose first byte is the number.
+abbrev pub own : (n : ℕ) {now : ℕ} → Since (steady countdown) now
+own n = record { source = own_source countdown n; agrees = tt }
+
+pub first_byte : (n : ℕ) → byte_at (stream_of countdown n) 0 ≡ n
+unfolding byte_at
+first_byte n = refl

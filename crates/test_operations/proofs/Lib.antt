@@ -1,4 +1,2 @@
--- The draws of a countdown.
-pub mod Countdowns
 -- What is shown when an operation begins, and what the clauses of the operations then say for any generator.
 pub mod Draws

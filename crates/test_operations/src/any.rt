@@ -8,8 +8,7 @@ ghost use Rattle.gen1_stats.specs.declared.status.Status.TheVariants.{Healthy, P
 ghost use Rattle.gen1_machine.specs.CriticalHits.{critical_bound_in, rotated_left_3};
 ghost use Rattle.gen1_machine.specs.Damage.{is_factor, rotated_right_1, times_factor};
 ghost use Rattle.gen1_machine.specs.HitTest.{scaled_in, settled_hit_in};
-ghost use Rattle.gen1_status.specs.GateAnswer.{stopped_by};
-ghost use Rattle.gen1_status.specs.Gate.{IsFree};
+ghost use Rattle.gen1_status.specs.Gate.{stopped_by, IsFree};
 
 use gen1_hits::{Hit, critical, factor, hit_test};
 use gen1_layout::Packed;

@@ -45,7 +45,7 @@ use Rattle.gen1_machine.specs.Turn.{play_turn, turn}
 use Rattle.gen1_machine.specs.Step.{is_among}
 use Rattle.gen1_machine.proofs.Computing.{computing}
 use Rattle.gen1_machine.proofs.WorkedRules.{tauros, knowing, facing, as_is, set, usual}
-use Rattle.gen1_machine.proofs.WorkedHits.{tauros_of, drawing, left_with}
+use Rattle.gen1_machine.proofs.WorkedMoves.{tauros_of, drawing, left_with}
 
 -- Two Tauros that face each other, with given draws
 

@@ -25,7 +25,7 @@ use Rattle.gen1_machine.specs.Ruling.{ruling_of, Ruling}
 use Rattle.gen1_machine.specs.Step.{update}
 use Rattle.gen1_machine.proofs.Computing.{computing}
 use Rattle.gen1_machine.proofs.WorkedRules.{tauros, knowing, facing, as_is, set, hp_of, usual}
-use Rattle.gen1_machine.proofs.WorkedHits.{tauros_of, healthy_at, hurt, left_with, drawing}
+use Rattle.gen1_machine.proofs.WorkedMoves.{tauros_of, healthy_at, hurt, left_with, drawing}
 
 -- Side 2 is a little slower, so side 1 is first, without a draw
 

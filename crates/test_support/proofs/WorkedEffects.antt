@@ -26,7 +26,7 @@ use Rattle.gen1_machine.specs.SideEffects.{side_effect}
 use Rattle.gen1_machine.specs.Action.{act}
 use Rattle.gen1_machine.proofs.Computing.{computing}
 use Rattle.gen1_machine.proofs.WorkedRules.{tauros, knowing, facing, as_is, set, usual}
-use Rattle.gen1_machine.proofs.WorkedHits.{tauros_of, healthy_at, moves, drawing}
+use Rattle.gen1_machine.proofs.WorkedMoves.{tauros_of, healthy_at, moves, drawing}
 use Rattle.test_support.proofs.WorkedCorners.{slower, two_goes_on}
 
 -- Side 1 uses its only move on a Tauros: the events, and the number of draws

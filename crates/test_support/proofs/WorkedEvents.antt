@@ -24,7 +24,7 @@ use Rattle.gen1_machine.specs.Turn.{turn}
 use Rattle.gen1_machine.specs.Step.{close_update}
 use Rattle.gen1_machine.proofs.Computing.{computing}
 use Rattle.gen1_machine.proofs.WorkedRules.{tauros, knowing, facing, as_is, set, usual}
-use Rattle.gen1_machine.proofs.WorkedHits.{tauros_of, healthy_at, hurt, moves, drawing}
+use Rattle.gen1_machine.proofs.WorkedMoves.{tauros_of, healthy_at, hurt, moves, drawing}
 
 -- The events when side 1 uses its only move on a foe, with five draws
 

@@ -2,8 +2,7 @@
 use Rattle.std.proofs.Common.{List, None, Option, Some, [], map, refl, replicate, ℕ, ◌∷◌, ◌≡◌}
 use Rattle.gen1_stats.specs.declared.refusal.TeamRefusal.{TeamRefusal}
 use Rattle.gen1_stats.specs.declared.refusal.TeamRefusal.TheVariants.{Dv, Empty, Level, MoveLeftOut, NoMove, PpUps, RepeatedMove, StruggleChosen, TooMany}
-use Rattle.gen1_stats.specs.Sheets.{Sheet}
-use Rattle.gen1_stats.specs.Teams.{team_of, team_refusal}
+use Rattle.gen1_stats.specs.Teams.{Sheet, team_of, team_refusal}
 use Rattle.gen1_machine.proofs.Computing.{computing}
 use Rattle.gen1_machine.proofs.WorkedRules.{tauros}
 

@@ -1,4 +1,4 @@
--- While a battle continues, each side is offered something.
+-- What is offered is accepted.
 pub mod Offers
 -- What a viewer has shown, event by event.
 pub mod Viewing

@@ -10,18 +10,18 @@ use Rattle.gen1_machine.specs.OfferedChoices.{offered}
 use Rattle.gen1_machine.specs.State.{Field, State, Terms}
 use Rattle.gen1_machine.specs.Step.{Accepted, Answer, Refused, events_of, run, run_by, step}
 use Rattle.gen1_machine.specs.Valid.{IsStarted, IsState, IsUnstarted}
-use Rattle.gen1_events.specs.Splits.{IsReading}
-use Rattle.gen1_layout.specs.LoadingHeader.{version_three}
-use Rattle.gen1_layout.specs.LoadingMeaning.{IsBattle}
+use Rattle.gen1_events.specs.Reader.{IsReading}
+use Rattle.gen1_layout.specs.Loading.{version_three}
+use Rattle.gen1_layout.specs.LoadingLaws.{IsBattle}
 use Rattle.gen1_layout.specs.Parts.{Parts, parts_of}
-use Rattle.gen1_layout.specs.Within.{Stands}
-use Rattle.gen1_layout.proofs.Packing.{parts-bytes_of}
+use Rattle.gen1_layout.specs.Shows.{Stands}
+use Rattle.gen1_layout.proofs.WaysBack.{parts-bytes_of}
 use Rattle.gen1_engine.specs.Calls.{Updates}
 use Rattle.gen1_engine.specs.declared.result.BattleResult.{BattleResult}
 use Rattle.gen1_engine.specs.declared.result.Refusal.{Refusal}
 use Rattle.gen1_engine.specs.Update.{AnswersAs, LogsAs, result_of}
-use Rattle.gen1_engine.proofs.Calls.{calls_are_the_run}
-use Rattle.gen1_spectator.specs.Watching.{AreRead}
+use Rattle.gen1_engine.proofs.Making.{calls_are_the_run}
+use Rattle.gen1_spectator.specs.Following.{AreRead}
 use Rattle.uses.specs.TheTheorem.{IsLogged, called, calls_in, logs_of, pair_of, returned_by}
 use Rattle.uses.specs.declared.the_theorem.Update.{Update}
 

@@ -8,8 +8,7 @@ use Rattle.gen1_machine.specs.declared.event.Event.{Event}
 use Rattle.gen1_machine.specs.LogBytes.{codes_of}
 use Rattle.gen1_machine.specs.Lines.{line, lines}
 use Rattle.gen1_machine.specs.View.{sees, sees_all, View}
-use Rattle.gen1_events.specs.Reader.{failed, Feeds, Finishes, Hands, part, Reading, waiting}
-use Rattle.gen1_events.specs.Splits.{fed, handed, made, Reads}
+use Rattle.gen1_events.specs.Reader.{failed, Feeds, Finishes, Hands, part, Reading, waiting, fed, handed, made, Reads}
 use Rattle.gen1_events.proofs.Readings.{reads_part}
 use Rattle.uses.specs.Viewing.{HasShown, ShowsLog, ShowsMore}
 use Rattle.gen1_printer.proofs.Standing.{lines_more}

@@ -1,7 +1,6 @@
 -- The damage and odds of a move in the present state of a battle, in the machine's terms.
 use Rattle.std.specs.Prelude.{Bool, List, Option, [], count_by, nat_le, option_map, replicate, ℕ, ◌∷◌}
-use Rattle.gen1_stats.specs.Sheets.{Sheet}
-use Rattle.gen1_stats.specs.Teams.{team_of}
+use Rattle.gen1_stats.specs.Teams.{Sheet, team_of}
 use Rattle.gen1_machine.specs.declared.choice.Choice.TheVariants.{Pass}
 use Rattle.gen1_machine.specs.declared.side.Side.{Side}
 use Rattle.gen1_machine.specs.CriticalHits.{critical_bound_in}
@@ -11,7 +10,7 @@ use Rattle.gen1_machine.specs.Moves.{Move, accuracy_byte}
 use Rattle.gen1_machine.specs.Sides.{other}
 use Rattle.gen1_machine.specs.State.{Field, State, first_state, member_in, usual_terms}
 use Rattle.gen1_machine.specs.Step.{step}
-use Rattle.gen1_hits.specs.Factors.{damages}
+use Rattle.gen1_hits.specs.DamageNumbers.{damages}
 use Rattle.uses.specs.declared.calculator.Calculation.{Calculation}
 
 -- a battle of two members, after its first update

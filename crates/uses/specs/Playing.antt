@@ -7,7 +7,7 @@ use Rattle.gen1_machine.specs.declared.choice.Choice.{Choice}
 use Rattle.gen1_machine.specs.State.{State, is_over}
 use Rattle.gen1_machine.specs.Step.{run}
 use Rattle.gen1_layout.specs.Parts.{Parts}
-use Rattle.gen1_layout.specs.Within.{Stands}
+use Rattle.gen1_layout.specs.Shows.{Stands}
 use Rattle.gen1_engine.specs.declared.result.BattleResult.{BattleResult}
 use Rattle.gen1_engine.specs.Update.{result_of}
 

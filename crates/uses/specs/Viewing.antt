@@ -8,8 +8,7 @@ use Rattle.uses.specs.declared.viewer.shown.Shown.{Shown}
 use Rattle.std.specs.Io.KnownBytes.{Appends}
 use Rattle.gen1_machine.specs.declared.event.Event.{Event}
 use Rattle.gen1_machine.specs.Lines.{lines}
-use Rattle.gen1_events.specs.Reader.{part, Reading}
-use Rattle.gen1_events.specs.Splits.{IsReading, Reads}
+use Rattle.gen1_events.specs.Reader.{part, Reading, IsReading, Reads}
 
 -- HP and status are those of the view, species and maximum HP those of the team; place 0 has no member
 abbrev pub shown_of : SideView → List Member → Option Shown

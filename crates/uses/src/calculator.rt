@@ -1,7 +1,7 @@
 //! A damage calculator: how much damage a move deals, how often it knocks out, how often it hits, and how often it is critical.
 // calling: gen1_hits
 ghost use Rattle.std.specs.Prelude.{IfOk, ◌≡◌};
-ghost use Rattle.gen1_layout.specs.Within.{Stands};
+ghost use Rattle.gen1_layout.specs.Shows.{Stands};
 ghost use Rattle.gen1_layout.specs.Words.{Reads, move_at};
 ghost use Rattle.uses.specs.Calculations.{calculation_in, faced_off, taking_all};
 

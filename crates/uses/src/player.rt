@@ -3,7 +3,7 @@
 ghost use Rattle.std.specs.Prelude.{IfOk, IsOk, length, true, ◌≡◌, ◌≤◌};
 ghost use Rattle.gen1_machine.specs.State.{State, is_over};
 ghost use Rattle.gen1_machine.specs.Step.{is_among};
-ghost use Rattle.gen1_layout.specs.Within.{Stands};
+ghost use Rattle.gen1_layout.specs.Shows.{Stands};
 ghost use Rattle.uses.specs.Playing.{PlayedOut};
 
 use gen1_engine::{Battle, BattleResult, Choices, Refusal};

@@ -1,12 +1,11 @@
 //! Mist, Focus Energy and the screens, which fail if they are up already (docs/MECHANICS.md, "Early effects").
 ghost use Rattle.gen1_layout.specs.Operations.{Does, scene};
-ghost use Rattle.gen1_layout.specs.Words.{ActiveConditions, AddsAtMost, HasRoom, conditions, false, move_at, slice_index_or, slice_set, stop, true, ℕ, ◌▸◌};
+ghost use Rattle.gen1_layout.specs.Words.{ActiveConditions, AddsAtMost, HasRoom, conditions, false, move_at, slice_index_or, slice_set, stop, true, ℕ, ◌▸◌, SameNumbers};
 ghost use Rattle.std.specs.Prelude.{◌==◌, ◌<◌, ◌^◌, ◌≡◌};
 ghost use Rattle.gen1_machine.specs.EarlyEffects.{set_focus_energy, set_mist, set_screen};
 ghost use Rattle.gen1_machine.specs.Layout.{condition_bits};
 ghost use Rattle.gen1_machine.specs.Moves.{light_screen_move};
 ghost use Rattle.gen1_machine.specs.Progress.{fails_if, starts};
-ghost use Rattle.gen1_layout.specs.Flags.{SameNumbers};
 
 use gen1_events::EventSink;
 use gen1_layout::{Conditions, Packed};

@@ -8,7 +8,7 @@ ghost use Rattle.gen1_tables.specs.Types.{same_type};
 ghost use Rattle.gen1_stats.specs.Members.{is_healthy};
 ghost use Rattle.gen1_machine.specs.State.{any_living, has_type};
 ghost use Rattle.gen1_machine.specs.SideEffects.{may_inflict, may_poison, thaw};
-ghost use Rattle.gen1_status.specs.Infliction.{IsCountOf};
+ghost use Rattle.gen1_status.specs.Statuses.{IsCountOf};
 ghost use Rattle.gen1_effects.specs.SideEffects.{afflict, is_freeze};
 
 use super::chance::is_drawn_below;

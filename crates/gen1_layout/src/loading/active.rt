@@ -1,9 +1,7 @@
 //! The test of the active blocks, without their current stats (docs/LAYOUT.md, "Active block", "Condition bits").
 ghost use Rattle.std.specs.Prelude.{◌≡◌, ◌↔◌, ◌<◌, ◌&&◌, ◌||◌, ◌==◌, IsTrue, length};
 ghost use Rattle.gen1_machine.specs.Valid.{OnlyWith};
-ghost use Rattle.gen1_layout.specs.LoadingBytes.{active_bytes, long, word};
-ghost use Rattle.gen1_layout.specs.Loading.{PassesOfActives};
-ghost use Rattle.gen1_layout.specs.LoadingActive.{effect_in, has, CountFits, DisabledFits, HoldsMove, PassesActive, PassesActiveAt, PassesCounts, PassesFixed, PassesOut, PassesProgress, PassesStages, PassesUnderway, TurnsFit, UsedFits};
+ghost use Rattle.gen1_layout.specs.Loading.{active_bytes, long, word, PassesOfActives, effect_in, has, CountFits, DisabledFits, HoldsMove, PassesActive, PassesActiveAt, PassesCounts, PassesFixed, PassesOut, PassesProgress, PassesStages, PassesUnderway, TurnsFit, UsedFits};
 
 use crate::loading::bytes::{active_bytes, are_zero, long, member_bytes, word};
 use crate::offsets;

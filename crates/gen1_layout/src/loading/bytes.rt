@@ -1,6 +1,6 @@
 //! Numbers and parts of the tested bytes (docs/LAYOUT.md, "The 384 bytes of a battle").
 ghost use Rattle.std.specs.Prelude.{◌≡◌, ◌+◌, ◌≤◌, ◌↔◌, All, IsTrue, length};
-ghost use Rattle.gen1_layout.specs.LoadingBytes.{active_bytes, long, member_bytes, word};
+ghost use Rattle.gen1_layout.specs.Loading.{active_bytes, long, member_bytes, word};
 
 use byteorder::{ByteOrder, LittleEndian};
 

@@ -1,8 +1,7 @@
 //! The tests of the version and the header (docs/LAYOUT.md, "Header", "Versions 1 and 2").
 ghost use Rattle.std.specs.Prelude.{◌≡◌, ◌↔◌, IsTrue, length};
 ghost use Rattle.gen1_stats.specs.Members.{IsBetween};
-ghost use Rattle.gen1_layout.specs.LoadingBytes.{header_of};
-ghost use Rattle.gen1_layout.specs.LoadingHeader.{version_three, PassesHeader, PassesVersion};
+ghost use Rattle.gen1_layout.specs.Loading.{header_of, version_three, PassesHeader, PassesVersion};
 
 use crate::loading::bytes::word;
 use crate::offsets::{INDEX, LIMIT, OUTCOME, REQUEST_ONE, REQUEST_TWO, RULES, TURN, VERSION};

@@ -2,7 +2,7 @@
 ghost use Rattle.gen1_layout.specs.LoadingLaws.{ActivesStand, FormsStand, HeadersStand, MembersStand, RequestsStand, StartsStand, StatsStand};
 
 /// A header of version 3 passes its test exactly if it is the header of some state with numbers in range.
-#[tactic(auto, using(crate::proofs::LoadingHeaders::headers_law))]
+#[tactic(auto, using(crate::proofs::LoadingLaws::headers_law))]
 pub fn headers_stand()
     ensures { HeadersStand }
 {}
@@ -30,7 +30,7 @@ pub fn starts_stand()
 {}
 
 /// From turn 1 on, turn, outcome and requests pass their test exactly if they fit together in the state.
-#[tactic(auto, using(crate::proofs::LoadingRequestLaws::requests_law))]
+#[tactic(auto, using(crate::proofs::LoadingLaws::requests_law))]
 pub fn requests_stand()
     ensures { RequestsStand }
 {}

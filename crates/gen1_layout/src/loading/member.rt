@@ -1,9 +1,7 @@
 //! The test of the places for members (docs/LAYOUT.md, "Member").
 ghost use Rattle.std.specs.Prelude.{◌≡◌, ◌≢◌, ◌↔◌, ◌≤◌, All, IsTrue, length};
 ghost use Rattle.gen1_stats.specs.Members.{IsBetween};
-ghost use Rattle.gen1_layout.specs.LoadingBytes.{member_bytes};
-ghost use Rattle.gen1_layout.specs.Loading.{PassesOfMembers};
-ghost use Rattle.gen1_layout.specs.LoadingMember.{may_be_known, status_fits, PassesMember, PassesMembers, PassesMoves, PassesNumbers, PassesOwnStats, PassesPlace, PassesSlot, PassesStatus};
+ghost use Rattle.gen1_layout.specs.Loading.{member_bytes, PassesOfMembers, may_be_known, status_fits, PassesMember, PassesMembers, PassesMoves, PassesNumbers, PassesOwnStats, PassesPlace, PassesSlot, PassesStatus};
 
 use crate::loading::bytes::{are_zero, member_bytes, word};
 use crate::offsets::{

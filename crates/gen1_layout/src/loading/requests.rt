@@ -1,10 +1,7 @@
 //! The test of turn, outcome, requests and living members together (docs/LAYOUT.md, "Turn, outcome and requests").
 ghost use Rattle.std.specs.Prelude.{◌≡◌, ◌↔◌, IsTrue, length, slice_index};
 ghost use Rattle.gen1_stats.specs.Members.{IsBetween};
-ghost use Rattle.gen1_layout.specs.LoadingBytes.{member_bytes, word};
-ghost use Rattle.gen1_layout.specs.Loading.{PassesOfActives, PassesOfRequests};
-ghost use Rattle.gen1_layout.specs.LoadingActive.{out_bytes};
-ghost use Rattle.gen1_layout.specs.LoadingRequests.{any_lives, lives, Asks, PassesAsked, PassesLater, PassesStart, PassesTie};
+ghost use Rattle.gen1_layout.specs.Loading.{member_bytes, word, PassesOfActives, PassesOfRequests, out_bytes, any_lives, lives, Asks, PassesAsked, PassesLater, PassesStart, PassesTie};
 
 use crate::loading::bytes::{member_bytes, word};
 use crate::offsets::{HP, LIMIT, OUTCOME, PLACE_IN_SIDE, REQUEST_ONE, REQUEST_TWO, TURN};

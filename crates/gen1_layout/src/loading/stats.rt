@@ -1,10 +1,7 @@
 //! The test of the current stats (docs/LAYOUT.md, "Current stats").
 ghost use Rattle.std.specs.Prelude.{◌≡◌, ◌↔◌, ◌≤◌, IsTrue, length};
 ghost use Rattle.gen1_machine.specs.Stages.{now_at};
-ghost use Rattle.gen1_layout.specs.LoadingBytes.{active_bytes, word};
-ghost use Rattle.gen1_layout.specs.Loading.{PassesOfActives, PassesOfStats};
-ghost use Rattle.gen1_layout.specs.LoadingActive.{PassesActiveAt, PassesStages};
-ghost use Rattle.gen1_layout.specs.LoadingStats.{ComesFrom, PassesStats, PassesStatsAt};
+ghost use Rattle.gen1_layout.specs.Loading.{active_bytes, word, PassesOfActives, PassesOfStats, PassesActiveAt, PassesStages, ComesFrom, PassesStats, PassesStatsAt};
 
 use crate::loading::bytes::{active_bytes, member_bytes, word};
 use crate::offsets::{

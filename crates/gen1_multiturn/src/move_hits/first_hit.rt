@@ -7,7 +7,7 @@ ghost use Rattle.gen1_machine.specs.Damage.{numbers};
 ghost use Rattle.gen1_machine.specs.ManyHits.{note_critical, note_effectiveness, note_first_hit};
 ghost use Rattle.gen1_machine.specs.Progress.{given};
 ghost use Rattle.gen1_hits.specs.Knowing.{aware_of};
-ghost use Rattle.gen1_multiturn.specs.Effectiveness.{how_many, is_neutral};
+ghost use Rattle.gen1_multiturn.specs.MoveHits.{how_many, is_neutral};
 
 use gen1_events::EventSink;
 use gen1_hits::Known;

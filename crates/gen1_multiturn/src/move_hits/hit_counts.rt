@@ -10,7 +10,7 @@ ghost use Rattle.gen1_machine.specs.Progress.{broke_substitute, given, unless, w
 ghost use Rattle.gen1_machine.specs.Valid.{IsCount};
 ghost use Rattle.gen1_layout.specs.Parts.{Parts};
 ghost use Rattle.gen1_hits.specs.Knowing.{aware, aware_of};
-ghost use Rattle.gen1_multiturn.specs.ManyHits.{IsFew, is_multi_hit};
+ghost use Rattle.gen1_multiturn.specs.MoveHits.{IsFew, is_multi_hit};
 
 use crate::counts::draw_count;
 use gen1_events::EventSink;

@@ -4,7 +4,7 @@ ghost use Rattle.gen1_layout.specs.Operations.{Does, quiet, scene};
 ghost use Rattle.gen1_layout.specs.Words.{AddsAtMost, Event as EventOf, HasRoom, List, false, move_at};
 ghost use Rattle.gen1_machine.specs.HitEffects.{drain, explode, hit_effect, recoil, recoil_of, start_rage};
 ghost use Rattle.gen1_tables.specs.Effects.{hits_more};
-ghost use Rattle.gen1_multiturn.specs.ManyHits.{consequence_of};
+ghost use Rattle.gen1_multiturn.specs.MoveHits.{consequence_of};
 
 use gen1_events::EventSink;
 use gen1_hits::{gain_hp, lose_hp};

@@ -11,9 +11,8 @@ ghost use Rattle.gen1_machine.specs.ManyHits.{hit_again, hit_once, hits, other_h
 ghost use Rattle.gen1_tables.specs.Effects.{hits_more, knocks_out};
 ghost use Rattle.gen1_machine.specs.Progress.{broke_substitute, note, only, unless};
 ghost use Rattle.gen1_layout.specs.Parts.{Parts};
-ghost use Rattle.gen1_hits.specs.Landing.{has_broken};
-ghost use Rattle.gen1_hits.specs.Knowing.{IsUncounted, aware, aware_of};
-ghost use Rattle.gen1_multiturn.specs.ManyHits.{IsFew};
+ghost use Rattle.gen1_hits.specs.Knowing.{has_broken, IsUncounted, aware, aware_of};
+ghost use Rattle.gen1_multiturn.specs.MoveHits.{IsFew};
 
 use crate::move_hits::first_hit::note_first_hit;
 use crate::move_hits::hit_counts::{hits_left, note_hit_count, plan_unless_broken};

@@ -8,10 +8,9 @@ ghost use Rattle.gen1_tables.specs.declared.effect.Effect.TheVariants.{Bide};
 ghost use Rattle.gen1_machine.specs.Conditions.{Storing, energy_with};
 ghost use Rattle.gen1_machine.specs.GoingOn.{bide_goes_on, let_energy_go, let_out, store_energy};
 ghost use Rattle.gen1_machine.specs.Progress.{underway};
-ghost use Rattle.gen1_hits.specs.Knowing.{IsUncounted, aware};
-ghost use Rattle.gen1_hits.specs.Alone.{Leaves, beginning};
+ghost use Rattle.gen1_hits.specs.Knowing.{IsUncounted, aware, Leaves, beginning};
 ghost use Rattle.gen1_hits.specs.Planned.{using};
-ghost use Rattle.gen1_multiturn.specs.Bide.{energy_let_out, use_bide};
+ghost use Rattle.gen1_multiturn.specs.GoingOn.{energy_let_out, use_bide};
 
 use gen1_events::EventSink;
 use gen1_hits::Known;

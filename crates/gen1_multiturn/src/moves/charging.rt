@@ -8,7 +8,7 @@ ghost use Rattle.gen1_tables.specs.Effects.{hides};
 ghost use Rattle.gen1_machine.specs.Progress.{on_conditions, only};
 ghost use Rattle.gen1_hits.specs.Knowing.{aware_of};
 ghost use Rattle.gen1_hits.specs.Planned.{taking};
-ghost use Rattle.gen1_multiturn.specs.Charging.{PicksMove, charge_picked};
+ghost use Rattle.gen1_multiturn.specs.GoingOn.{PicksMove, charge_picked};
 
 use gen1_events::EventSink;
 use gen1_hits::Known;

@@ -5,7 +5,7 @@ ghost use Rattle.gen1_layout.specs.Operations.{Draws, quiet};
 ghost use Rattle.gen1_layout.specs.Words.{Event, List, Reads, false, move_at};
 ghost use Rattle.gen1_machine.specs.Counter.{can_be_countered, counter};
 ghost use Rattle.gen1_hits.specs.Knowing.{IsUncounted, aware};
-ghost use Rattle.gen1_multiturn.specs.Counter.{can_counter_in, countered};
+ghost use Rattle.gen1_multiturn.specs.MoveHits.{can_counter_in, countered};
 
 use gen1_hits::{Known, critical, hit_or_miss};
 use gen1_layout::Packed;

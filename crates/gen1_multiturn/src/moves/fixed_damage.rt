@@ -7,7 +7,7 @@ ghost use Rattle.gen1_layout.specs.Words.{Event, List, Reads, false, member_in, 
 ghost use Rattle.gen1_layout.specs.Parts.{Parts};
 ghost use Rattle.gen1_machine.specs.FixedDamage.{deal_fixed, fixed_damage, half_hp, psywave};
 ghost use Rattle.gen1_hits.specs.Knowing.{IsUncounted, aware};
-ghost use Rattle.gen1_multiturn.specs.FixedDamage.{DealsAs};
+ghost use Rattle.gen1_multiturn.specs.MoveHits.{DealsAs};
 
 use gen1_hits::{Known, hit_or_miss};
 use gen1_layout::Packed;

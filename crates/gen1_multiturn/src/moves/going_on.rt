@@ -3,8 +3,7 @@ ghost use Rattle.gen1_layout.specs.Operations.{Does, learns, unchanged};
 ghost use Rattle.gen1_layout.specs.Words.{Event, List, false};
 ghost use Rattle.gen1_machine.specs.declared.picks.Pick.TheVariants.{Continue};
 ghost use Rattle.gen1_machine.specs.Action.{see_if_going_on};
-ghost use Rattle.gen1_hits.specs.Alone.{beginning};
-ghost use Rattle.gen1_hits.specs.Knowing.{knowing};
+ghost use Rattle.gen1_hits.specs.Knowing.{beginning, knowing};
 
 use gen1_hits::Known;
 use gen1_layout::Packed;

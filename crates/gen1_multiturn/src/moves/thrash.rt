@@ -9,8 +9,7 @@ ghost use Rattle.gen1_tables.specs.Effects.{thrashes};
 ghost use Rattle.gen1_machine.specs.Moves.{Move, accuracy_byte};
 ghost use Rattle.gen1_machine.specs.GoingOn.{thrash_about, thrash_for, thrash_less};
 ghost use Rattle.gen1_machine.specs.Progress.{underway};
-ghost use Rattle.gen1_hits.specs.Alone.{Leaves, beginning};
-ghost use Rattle.gen1_hits.specs.Knowing.{aware_of};
+ghost use Rattle.gen1_hits.specs.Knowing.{Leaves, beginning, aware_of};
 ghost use Rattle.gen1_hits.specs.Planned.{using};
 ghost use Rattle.gen1_multiturn.specs.GoingOn.{use_thrash};
 

@@ -9,8 +9,7 @@ ghost use Rattle.gen1_machine.specs.Conditions.{with_trapping_one_less, without_
 ghost use Rattle.gen1_tables.specs.Effects.{traps};
 ghost use Rattle.gen1_machine.specs.GoingOn.{draw_count, trap, trap_for};
 ghost use Rattle.gen1_machine.specs.Progress.{on_conditions, underway};
-ghost use Rattle.gen1_hits.specs.Alone.{Leaves, beginning};
-ghost use Rattle.gen1_hits.specs.Knowing.{aware_of};
+ghost use Rattle.gen1_hits.specs.Knowing.{Leaves, beginning, aware_of};
 ghost use Rattle.gen1_hits.specs.Planned.{using};
 ghost use Rattle.gen1_multiturn.specs.GoingOn.{use_trap};
 

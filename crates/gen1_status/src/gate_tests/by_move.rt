@@ -5,7 +5,7 @@ ghost use Rattle.gen1_layout.specs.Operations.{Does, Draws, anything, scene};
 ghost use Rattle.gen1_layout.specs.Words.{AddsAtMost, AddsNone, HasRoom, Reads, false, is_paralysed};
 ghost use Rattle.gen1_machine.specs.Picks.{bars, is_disabled_in, is_idle};
 ghost use Rattle.gen1_machine.specs.Gate.{disabled_test, gate_of_move, paralysis_test};
-ghost use Rattle.gen1_status.specs.GateAnswer.{DrawsTelling};
+ghost use Rattle.gen1_status.specs.Gate.{DrawsTelling};
 
 use super::cant;
 use super::confusion::confusion_test;

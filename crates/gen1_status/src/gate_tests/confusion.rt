@@ -7,7 +7,7 @@ ghost use Rattle.gen1_machine.specs.declared.event.Volatile.TheVariants as volat
 ghost use Rattle.gen1_machine.specs.Conditions.{with_confusion_one_less, without_confusion};
 ghost use Rattle.gen1_machine.specs.Progress.{ends, lasts};
 ghost use Rattle.gen1_machine.specs.Gate.{confusion_test, may_hurt_itself};
-ghost use Rattle.gen1_status.specs.GateAnswer.{DrawsTelling};
+ghost use Rattle.gen1_status.specs.Gate.{DrawsTelling};
 
 use crate::Gate;
 use crate::hit_on_itself::hurt_itself;

@@ -9,7 +9,7 @@ ghost use Rattle.gen1_machine.specs.EarlyEffects.{early_effect, is_early};
 ghost use Rattle.gen1_machine.specs.Progress.{only};
 ghost use Rattle.gen1_hits.specs.Knowing.{aware, aware_of};
 ghost use Rattle.gen1_hits.specs.Planned.{taking, using};
-ghost use Rattle.gen1_turn.specs.ActionSteps.{begin_move};
+ghost use Rattle.gen1_turn.specs.Action.{begin_move};
 
 use super::used_move::use_move;
 use gen1_effects::{group_one_knowing, is_early};

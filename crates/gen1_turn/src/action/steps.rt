@@ -9,7 +9,7 @@ ghost use Rattle.gen1_tables.specs.Effects.{traps};
 ghost use Rattle.gen1_machine.specs.Progress.{only, unless};
 ghost use Rattle.gen1_hits.specs.Knowing.{IsUncounted, aware};
 ghost use Rattle.gen1_hits.specs.Planned.{taking, using};
-ghost use Rattle.gen1_turn.specs.ActionSteps.{late_part, damage_and_strike};
+ghost use Rattle.gen1_turn.specs.Action.{late_part, damage_and_strike};
 ghost use Rattle.gen1_turn.specs.Damage.{DrawsLike, LikeUsual};
 
 use super::damage::damage_of;

@@ -6,7 +6,7 @@ ghost use Rattle.gen1_layout.specs.Words.{AddsAtMost, HasRoom, Reads, move_at, o
 ghost use Rattle.gen1_machine.specs.Action.{strike};
 ghost use Rattle.gen1_machine.specs.State.{has_fallen_in};
 ghost use Rattle.gen1_hits.specs.Knowing.{IsUncounted, aware};
-ghost use Rattle.gen1_turn.specs.ActionSteps.{hits_with_effect};
+ghost use Rattle.gen1_turn.specs.Action.{hits_with_effect};
 
 use gen1_effects::side_effect_knowing;
 use gen1_events::EventSink;

@@ -10,9 +10,8 @@ ghost use Rattle.gen1_machine.specs.HitTest.{hit_or_miss};
 ghost use Rattle.gen1_machine.specs.Ruling.{ruling_of};
 ghost use Rattle.gen1_hits.specs.Knowing.{IsUncounted, ShowsKnown, ShowsOver};
 ghost use Rattle.gen1_hits.specs.Planned.{taking, using};
-ghost use Rattle.gen1_hits.specs.UsualDamage.{has_usual_damage};
-ghost use Rattle.gen1_turn.specs.Action.{acting, ready};
-ghost use Rattle.gen1_turn.specs.ActionSteps.{damage_and_strike, late_part};
+ghost use Rattle.gen1_hits.specs.DamageNumbers.{has_usual_damage};
+ghost use Rattle.gen1_turn.specs.Action.{acting, ready, damage_and_strike, late_part};
 ghost use Rattle.gen1_turn.specs.Damage.{LikeDamage};
 ghost use Rattle.gen1_turn.specs.TwoParts.{IsRolling, PlaysTo, RollsDamage, TestsHit, fresh, from_roll, from_test, known_at, parts_from_roll, rolling};
 

@@ -8,7 +8,7 @@ ghost use Rattle.gen1_tables.specs.Effects.{bides};
 ghost use Rattle.gen1_machine.specs.Progress.{goes_on_now, note, on_member, only, unless};
 ghost use Rattle.gen1_machine.specs.State.{with_pp_spent};
 ghost use Rattle.gen1_hits.specs.Knowing.{aware_of};
-ghost use Rattle.gen1_multiturn.specs.Charging.{PicksMove};
+ghost use Rattle.gen1_multiturn.specs.GoingOn.{PicksMove};
 
 use gen1_events::{EventSink, Untested};
 use gen1_hits::Known;

@@ -8,7 +8,7 @@ ghost use Rattle.gen1_machine.specs.State.{has_fallen_in, is_over};
 ghost use Rattle.gen1_machine.specs.ResidualDamage.{residual};
 ghost use Rattle.gen1_machine.specs.Ruling.{Ruling};
 ghost use Rattle.gen1_machine.specs.Turn.{Sends, do_part, end_spent_trapping, end_turn, is_cut, is_spent};
-ghost use Rattle.gen1_status.specs.ResidualDamage.{takes_hp};
+ghost use Rattle.gen1_status.specs.Statuses.{takes_hp};
 ghost use Rattle.gen1_hits.specs.Knowing.{knowing, with_broke};
 ghost use Rattle.gen1_turn.specs.Action.{acting};
 ghost use Rattle.gen1_turn.specs.TurnParts.{ActsAndSuffers, LeavesRest, MayCome, PartLeaves, suffering};

@@ -2,7 +2,7 @@
 // calling: gen1_room
 ghost use Rattle.std.specs.Prelude.{◌≡◌};
 ghost use Rattle.gen1_machine.specs.Room.{Course, after, reply_to};
-ghost use Rattle.gen1_events.specs.Splits.{IsReading};
+ghost use Rattle.gen1_events.specs.Reader.{IsReading};
 ghost use Rattle.gen1_room.specs.Rooms.{Holds, submission_of};
 ghost use Rattle.uses.specs.Playing.{next_of};
 

@@ -2,7 +2,7 @@
 ghost use Rattle.std.specs.Prelude.{IfSome, map, ◌≡◌};
 ghost use Rattle.gen1_machine.specs.Room.{course_of, replies_of, room_of};
 ghost use Rattle.gen1_machine.specs.State.{State};
-ghost use Rattle.gen1_layout.specs.Within.{Stands};
+ghost use Rattle.gen1_layout.specs.Shows.{Stands};
 ghost use Rattle.gen1_room.specs.Rooms.{Holds, reply_of, submission_at};
 
 use gen1_engine::Battle;

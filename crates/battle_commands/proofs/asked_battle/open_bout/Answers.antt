@@ -2,7 +2,7 @@ use Rattle.std.proofs.Common.{refl}
 use Rattle.std.proofs.lemmas.Result.{err_from_is_err_and}
 use Rattle.battle_input.specs.Sheets.{sheet_view}
 use Rattle.battle_commands.specs.Asked.{begins}
-use Rattle.battle_commands.proofs.Outcomes.{asks_for, opens_no_sheet, sheet_unread, sheet_unwritten, stands_begun}
+use Rattle.battle_commands.proofs.Serving.{asks_for, opens_no_sheet, sheet_unread, sheet_unwritten, stands_begun}
 use Rattle.battle_commands.proofs.asked_battle.open_bout.Goals as goal
 
 pub returns-in_err-sheet-clause-opens : goal.returns-in_err-sheet-clause-opens

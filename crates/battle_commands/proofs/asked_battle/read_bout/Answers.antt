@@ -1,7 +1,7 @@
 use Rattle.std.proofs.Common.{◌∙◌}
 use Rattle.std.proofs.lemmas.Result.{err_from_is_err_and}
 use Rattle.battle_commands.specs.Asked.{asked_of}
-use Rattle.battle_commands.proofs.Outcomes.{no_writes, opens_no_input, opens_read, or_false, unwritten}
+use Rattle.battle_commands.proofs.Serving.{no_writes, opens_no_input, opens_read, or_false, unwritten}
 use Rattle.battle_commands.proofs.asked_battle.read_bout.Goals as goal
 
 pub returns-in_err-input-clause-opens : goal.returns-in_err-input-clause-opens

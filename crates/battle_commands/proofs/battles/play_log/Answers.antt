@@ -1,8 +1,7 @@
 use Rattle.std.proofs.lemmas.Result.{err_from_is_err_and}
 use Rattle.gen1_machine.specs.LogBytes.{codes_of}
-use Rattle.battle_commands.specs.Asked.{asked_to_run}
-use Rattle.battle_commands.specs.Due.{due_from}
-use Rattle.battle_commands.proofs.Outcomes.{answers_opened, answers_unopened, no_writes}
+use Rattle.battle_commands.specs.Asked.{asked_to_run, due_from}
+use Rattle.battle_commands.proofs.Serving.{answers_opened, answers_unopened, no_writes}
 use Rattle.battle_commands.proofs.battles.play_log.Goals as goal
 
 pub returns-in_err-bout-clause-answers : goal.returns-in_err-bout-clause-answers

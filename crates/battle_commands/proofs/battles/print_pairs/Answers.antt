@@ -4,7 +4,7 @@ use Rattle.gen1_machine.specs.Lines.{lines}
 use Rattle.gen1_engine.specs.Replay.{step_by_bytes}
 use Rattle.gen1_engine.specs.Update.{refusal_number}
 use Rattle.battle_commands.specs.declared.fault.ToolFault.TheVariants.{Pair}
-use Rattle.battle_commands.proofs.Outcomes.{or_false}
+use Rattle.battle_commands.proofs.Serving.{or_false}
 use Rattle.battle_commands.proofs.Standing.{answered_err, answered_ok, answers_memory, answers_over, answers_refused, answers_write, stood_first, stood_more}
 use Rattle.battle_commands.proofs.battles.print_pairs.Goals as goal
 

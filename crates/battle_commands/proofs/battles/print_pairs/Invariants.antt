@@ -2,7 +2,7 @@
 use Rattle.std.proofs.Common.{◌≡◌}
 use Rattle.gen1_machine.specs.Lines.{lines}
 use Rattle.gen1_machine.specs.State.{State}
-use Rattle.gen1_layout.specs.Within.{Stands}
+use Rattle.gen1_layout.specs.Shows.{Stands}
 use Rattle.battle_commands.proofs.Standing.{Stood}
 use Rattle.battle_commands.proofs.battles.print_pairs.Given as goal
 

@@ -1,6 +1,6 @@
 -- The lines of the events so far are written.
 use Rattle.std.proofs.Common.{◌≡◌, take}
-use Rattle.gen1_devices.specs.DeviceViews.{device_inner}
+use Rattle.gen1_devices.specs.Output.{device_inner}
 use Rattle.gen1_machine.specs.Lines.{lines}
 use Rattle.battle_commands.proofs.battles.text_of.Given as goal
 

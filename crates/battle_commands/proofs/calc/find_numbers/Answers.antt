@@ -2,7 +2,7 @@ use Rattle.std.proofs.Common.{ap, sym, ◌∙◌}
 use Rattle.std.proofs.lemmas.Result.{err_from_is_err_and}
 use Rattle.std.specs.Prelude.{ok_or}
 use Rattle.battle_commands.specs.declared.fault.ToolFault.TheVariants.{Calc}
-use Rattle.battle_commands.proofs.Outcomes.{due_found, finds_no_sheet}
+use Rattle.battle_commands.proofs.Serving.{due_found, finds_no_sheet}
 use Rattle.battle_commands.proofs.calc.find_numbers.Goals as goal
 
 pub returns-in_err-sheet : goal.returns-in_err-sheet

@@ -1,6 +1,5 @@
 use Rattle.std.proofs.Common.{◌∙◌}
-use Rattle.battle_commands.proofs.Outcomes.{or_false}
-use Rattle.battle_commands.proofs.Serving.{file_is_none, file_is_some, opened_serves, read_well, serves, standard_serves, unopened_serves, with_file, without_file}
+use Rattle.battle_commands.proofs.Serving.{or_false, file_is_none, file_is_some, opened_serves, read_well, serves, standard_serves, unopened_serves, with_file, without_file}
 use Rattle.battle_commands.proofs.commands.run.Goals as goal
 
 pub returns-in-None-clause-serves : goal.returns-in-None-clause-serves

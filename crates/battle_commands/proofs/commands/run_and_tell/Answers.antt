@@ -1,6 +1,5 @@
 use Rattle.std.proofs.Common.{Err, Ok, refl, sym, ◌∙◌}
-use Rattle.battle_commands.proofs.Outcomes.{or_false}
-use Rattle.battle_commands.proofs.Serving.{is_above_0}
+use Rattle.battle_commands.proofs.Serving.{or_false, is_above_0}
 use Rattle.battle_commands.proofs.commands.run_and_tell.Goals as goal
 
 pub returns-in-Ok-clause-ends : goal.returns-in-Ok-clause-ends

@@ -1,5 +1,5 @@
 use Rattle.std.proofs.Common.{ap, ◌∙◌}
-use Rattle.gen1_hits.specs.Factors.{damages}
+use Rattle.gen1_hits.specs.DamageNumbers.{damages}
 use Rattle.battle_commands.specs.Calc.{damages_of}
 use Rattle.battle_commands.proofs.damage.damages.Goals as goal
 

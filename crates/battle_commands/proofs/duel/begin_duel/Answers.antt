@@ -1,5 +1,5 @@
-use Rattle.gen1_layout.specs.Within.{setting_of}
-use Rattle.battle_commands.proofs.Outcomes.{before, both_out, unstarted}
+use Rattle.gen1_layout.specs.Shows.{setting_of}
+use Rattle.battle_commands.proofs.Serving.{before, both_out, unstarted}
 use Rattle.battle_commands.proofs.duel.begin_duel.Goals as goal
 
 pub returns : goal.returns

@@ -1,5 +1,5 @@
 use Rattle.std.proofs.lemmas.Result.{err_from_is_err_and}
-use Rattle.battle_commands.proofs.Outcomes.{prints_no_log, no_writes, unwritten}
+use Rattle.battle_commands.proofs.Serving.{prints_no_log, no_writes, unwritten}
 use Rattle.battle_commands.proofs.logs.play_print.Goals as goal
 
 pub returns-in_err-log-clause-answers : goal.returns-in_err-log-clause-answers

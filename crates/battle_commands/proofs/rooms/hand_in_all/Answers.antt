@@ -1,7 +1,7 @@
 use Rattle.std.proofs.Common.{arith, length, refl, ◌<◌, ◌∙◌}
 use Rattle.std.proofs.lemmas.Result.{err_from_is_err_and}
 use Rattle.battle_commands.proofs.Heard.{heard_all, heard_fault, heard_first, heard_more}
-use Rattle.battle_commands.proofs.Outcomes.{or_false}
+use Rattle.battle_commands.proofs.Serving.{or_false}
 use Rattle.battle_commands.proofs.rooms.hand_in_all.Goals as goal
 
 pub loop-submission-init : goal.loop-submission-init

@@ -1,10 +1,9 @@
 use Rattle.std.proofs.Common.{Err}
 use Rattle.std.proofs.lemmas.Result.{err_from_is_err_and}
 use Rattle.gen1_machine.specs.Room.{room_of}
-use Rattle.battle_commands.specs.Asked.{asked_of_room}
-use Rattle.battle_commands.specs.Due.{replies_due, submissions_due}
+use Rattle.battle_commands.specs.Asked.{asked_of_room, replies_due, submissions_due}
 use Rattle.battle_commands.proofs.Heard.{answers_behind, fault_first}
-use Rattle.battle_commands.proofs.Outcomes.{answers_opened, answers_unopened, no_writes}
+use Rattle.battle_commands.proofs.Serving.{answers_opened, answers_unopened, no_writes}
 use Rattle.battle_commands.proofs.rooms.play_room.Goals as goal
 
 pub returns-in_err-bout-clause-answers : goal.returns-in_err-bout-clause-answers

@@ -1,5 +1,5 @@
 use Rattle.std.proofs.Common.{arith, false, get_or, refl, rules, sym, ◌==◌, ◌≡◌, ◌∙◌}
-use Rattle.battle_input.proofs.Stops.{stops_feed, stops_other}
+use Rattle.battle_input.proofs.Reading.{stops_feed, stops_other}
 use Rattle.battle_input.proofs.no_json.no_json.Goals as goal
 use Rattle.battle_input.proofs.no_json.no_json.Goals.{then-byte-eq10, else-byte-eq10}
 

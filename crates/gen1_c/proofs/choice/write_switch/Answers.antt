@@ -1,7 +1,7 @@
 use Rattle.std.proofs.Common.{List, Ok, ap, arith, codes, length, subst, sym, ◌++◌, ◌+◌, ◌∙◌, ◌≤◌, ◌∷◌, ℕ}
 use Rattle.gen1_tables.specs.Names.{species_name}
-use Rattle.gen1_layout.specs.Within.{setting_of}
-use Rattle.gen1_offers.proofs.BetweenUpdates.{packs_of}
+use Rattle.gen1_layout.specs.Shows.{setting_of}
+use Rattle.gen1_offers.proofs.OfferedSet.{packs_of}
 use Rattle.gen1_c.proofs.Updates.{let_through}
 use Rattle.gen1_c.proofs.ShortLines.{species_short}
 use Rattle.gen1_c.proofs.Writing.{none_through, refused, switch_named, switch_unnamed, written}

@@ -1,10 +1,9 @@
 use Rattle.std.proofs.Common.{Err, Ok, ap, sym, refl, ◌∙◌}
 use Rattle.gen1_machine.specs.Damage.{numbers_in}
 use Rattle.gen1_machine.specs.Moves.{move_at}
-use Rattle.gen1_layout.specs.Within.{setting_of}
-use Rattle.gen1_offers.proofs.BetweenUpdates.{packs_of}
-use Rattle.gen1_hits.specs.Factors.{damages}
-use Rattle.gen1_hits.specs.UsualDamage.{has_usual_damage}
+use Rattle.gen1_layout.specs.Shows.{setting_of}
+use Rattle.gen1_offers.proofs.OfferedSet.{packs_of}
+use Rattle.gen1_hits.specs.DamageNumbers.{damages, has_usual_damage}
 use Rattle.gen1_c.proofs.Updates.{kept_out, let_through}
 use Rattle.gen1_c.proofs.OddsDue.{due_divisor, due_list, due_no_move, due_nobody, due_unusual, same_side, told, within_out}
 use Rattle.gen1_c.proofs.damage.gen1_damage.Goals as goal

@@ -1,12 +1,12 @@
 use Rattle.std.proofs.Common.{Err, Ok, Result, refl, subst, true, ℕ, ◌≡◌}
 use Rattle.std.specs.Prelude.{IfErr, IfOk, ◌↔◌}
-use Rattle.gen1_layout.specs.LoadingMeaning.{IsBattle}
+use Rattle.gen1_layout.specs.LoadingLaws.{IsBattle}
 use Rattle.gen1_layout.specs.Parts.{Parts, parts_of}
 use Rattle.gen1_guesses.specs.Forks.{guessed_state}
 use Rattle.gen1_guesses.specs.declared.fault.GuessFault.{GuessFault}
 use Rattle.gen1_guesses.specs.declared.guess.Guess.{Guess}
 use Rattle.gen1_states.specs.Bytes.{bytes_of}
-use Rattle.gen1_states.specs.Completed.{completed}
+use Rattle.gen1_states.specs.Tests.{completed}
 use Rattle.gen1_states.specs.declared.plain.BattleState.{BattleState}
 use Rattle.gen1_c.specs.Players.{code_of, fault_form_of}
 use Rattle.gen1_c.specs.declared.guesses.GuessFaultForm.{GuessFaultForm}

@@ -1,5 +1,5 @@
 use Rattle.std.proofs.Common.{Err, Ok, refl, sym, ◌∙◌}
-use Rattle.gen1_layout.specs.Within.{setting_of}
+use Rattle.gen1_layout.specs.Shows.{setting_of}
 use Rattle.gen1_odds.specs.KnockOut.{chances_in}
 use Rattle.gen1_c.proofs.OddsDue.{within_out, tells, use_out}
 use Rattle.gen1_c.proofs.odds.gen1_knock_out.Goals as goal

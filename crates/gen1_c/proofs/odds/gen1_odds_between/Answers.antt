@@ -2,7 +2,7 @@ use Rattle.std.proofs.Common.{List, [], ap, sym, ◌∙◌, ◌∷◌, ℕ}
 use Rattle.gen1_stats.specs.Members.{Member}
 use Rattle.gen1_stats.specs.Teams.{team_of}
 use Rattle.gen1_machine.specs.declared.side.Side.TheVariants.{One}
-use Rattle.gen1_layout.specs.Within.{setting_of}
+use Rattle.gen1_layout.specs.Shows.{setting_of}
 use Rattle.gen1_c.specs.Odds.{facing, odds_of_state}
 use Rattle.gen1_c.specs.Teams.{sheet_of}
 use Rattle.gen1_c.proofs.Updates.{let_through}

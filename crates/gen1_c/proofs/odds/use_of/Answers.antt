@@ -1,7 +1,7 @@
 use Rattle.std.proofs.Common.{Ok, ap, sym, ◌∙◌}
 use Rattle.gen1_machine.specs.declared.side.Side.{Side}
-use Rattle.gen1_layout.specs.Within.{setting_of}
-use Rattle.gen1_offers.proofs.BetweenUpdates.{packs_of}
+use Rattle.gen1_layout.specs.Shows.{setting_of}
+use Rattle.gen1_offers.proofs.OfferedSet.{packs_of}
 use Rattle.gen1_c.proofs.Updates.{kept_out, let_through}
 use Rattle.gen1_c.proofs.OddsDue.{same_side, use_no_move, use_none_out, use_value}
 use Rattle.gen1_c.proofs.odds.use_of.Goals as goal

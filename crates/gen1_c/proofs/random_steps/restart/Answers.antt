@@ -1,6 +1,6 @@
 use Rattle.std.proofs.Common.{subst, sym}
 use Rattle.gen1_layout.specs.Parts.{Parts}
-use Rattle.gen1_layout.specs.Within.{Stands}
+use Rattle.gen1_layout.specs.Shows.{Stands}
 use Rattle.gen1_c.proofs.Updates.{begins}
 use Rattle.gen1_c.proofs.random_steps.restart.Goals as goal
 

@@ -2,7 +2,7 @@ use Rattle.std.proofs.Common.{ap, arith, length, subst, sym, ◌<◌, ◌∙◌,
 use Rattle.std.specs.Prelude.{false, true}
 use Rattle.gen1_machine.specs.State.{is_over}
 use Rattle.gen1_layout.specs.Parts.{Parts}
-use Rattle.gen1_layout.specs.Within.{Stands}
+use Rattle.gen1_layout.specs.Shows.{Stands}
 use Rattle.gen1_engine.specs.declared.result.BattleResult.{BattleResult}
 use Rattle.gen1_c.proofs.Updates.{again-over, again-stays}
 use Rattle.gen1_c.proofs.random_steps.start_again.Goals as goal

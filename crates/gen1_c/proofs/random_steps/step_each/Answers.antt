@@ -1,7 +1,7 @@
 use Rattle.std.proofs.Common.{ap, arith, length, subst, sym, take, ℕ, ◌+◌, ◌<◌, ◌∙◌}
 use Rattle.std.specs.Prelude.{Option, slice_index_or}
 use Rattle.gen1_machine.specs.State.{State}
-use Rattle.gen1_layout.specs.Within.{Stands}
+use Rattle.gen1_layout.specs.Shows.{Stands}
 use Rattle.gen1_c.specs.Batches.{IsStart, IsStepped, started_again, over_in}
 use Rattle.gen1_c.proofs.Updates.{left_more, listed-more, over-more, stepped-from, stepped-here, stepped-more}
 use Rattle.gen1_c.proofs.random_steps.step_each.Goals as goal

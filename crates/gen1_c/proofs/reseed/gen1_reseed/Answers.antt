@@ -1,7 +1,7 @@
 use Rattle.std.proofs.Common.{arith, refl, sym, subst, ◌∙◌}
 use Rattle.std.proofs.lemmas.Bool.Decides.{nat_tests}
-use Rattle.gen1_rolls.specs.Link.{Ring}
-use Rattle.gen1_layout.specs.Within.{Stands}
+use Rattle.gen1_rolls.specs.Steady.{Ring}
+use Rattle.gen1_layout.specs.Shows.{Stands}
 use Rattle.gen1_engine.specs.Reseed.{reseeded}
 use Rattle.gen1_c.proofs.Updates.{let_through}
 use Rattle.gen1_c.proofs.Writing.{none_through}

@@ -3,7 +3,7 @@ use Rattle.std.proofs.lemmas.List.{length-map}
 use Rattle.gen1_machine.specs.declared.side.Side.{Side}
 use Rattle.gen1_machine.specs.Choices.{byte_of_choice}
 use Rattle.gen1_room.specs.Rooms.{due}
-use Rattle.gen1_c.specs.Fronts.{over_front}
+use Rattle.gen1_c.specs.Codes.{over_front}
 use Rattle.gen1_c.proofs.OddsDue.{same_side}
 use Rattle.gen1_c.proofs.Writing.{rest_of}
 use Rattle.gen1_c.proofs.rooms.gen1_room_choices.Goals as goal

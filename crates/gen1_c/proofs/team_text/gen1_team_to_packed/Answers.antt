@@ -1,8 +1,7 @@
 use Rattle.std.proofs.Common.{List, Ok, ap, arith, sym, ◌≡◌, ◌∙◌}
-use Rattle.gen1_stats.specs.Sheets.{Sheet}
-use Rattle.gen1_stats.specs.Teams.{team_of}
+use Rattle.gen1_stats.specs.Teams.{Sheet, team_of}
 use Rattle.gen1_text.specs.Packed.{team_packed}
-use Rattle.gen1_writer.specs.PackedLine.{packed_of}
+use Rattle.gen1_writer.specs.Export.{packed_of}
 use Rattle.gen1_writer.specs.Written.{write_refusal}
 use Rattle.gen1_c.proofs.WrittenTeams.{due_refusal, due_text, not_refused, sheets-of}
 use Rattle.gen1_c.proofs.Writing.{refused, written, written_back}

@@ -1,6 +1,5 @@
 use Rattle.std.proofs.Common.{List, Ok, ap, arith, sym, ◌≡◌, ◌∙◌}
-use Rattle.gen1_stats.specs.Sheets.{Sheet}
-use Rattle.gen1_stats.specs.Teams.{team_of}
+use Rattle.gen1_stats.specs.Teams.{Sheet, team_of}
 use Rattle.gen1_text.specs.Texts.{team_told}
 use Rattle.gen1_writer.specs.Export.{text_of}
 use Rattle.gen1_writer.specs.Written.{write_refusal}

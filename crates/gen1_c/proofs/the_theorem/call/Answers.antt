@@ -2,7 +2,7 @@ use Rattle.std.proofs.Common.{ap, arith, length, refl, subst, sym, ◌∙◌, �
 use Rattle.gen1_machine.specs.declared.side.Side.TheVariants.{One, Two}
 use Rattle.gen1_machine.specs.State.{State}
 use Rattle.gen1_layout.specs.Parts.{Parts}
-use Rattle.gen1_layout.specs.Within.{Stands}
+use Rattle.gen1_layout.specs.Shows.{Stands}
 use Rattle.gen1_c.specs.TheTheorem.{stepped}
 use Rattle.gen1_c.proofs.TheTheorem.{by_answer, called_logged, called_same, goes}
 use Rattle.gen1_c.proofs.the_theorem.call.Goals as goal

@@ -3,7 +3,7 @@ use Rattle.gen1_machine.specs.LateEffects.{late_effect}
 use Rattle.gen1_machine.specs.Moves.{move_at}
 use Rattle.gen1_machine.specs.Ruling.{ruling_of}
 use Rattle.gen1_hits.specs.Knowing.{begun}
-use Rattle.gen1_effects.proofs.BegunAlone.{begun_alone, left_unended}
+use Rattle.gen1_effects.proofs.Passing.{begun_alone, left_unended}
 use Rattle.gen1_effects.proofs.late_effects.group_two.Goals as goal
 
 pub returns-clause-shown : goal.returns-clause-shown

@@ -8,8 +8,8 @@ use Rattle.gen1_machine.specs.StageShift.{raise_stage}
 use Rattle.gen1_hits.specs.Knowing.{knowing}
 use Rattle.gen1_hits.proofs.Knowledge.{plain_still}
 use Rattle.gen1_effects.proofs.LateEffects.{begins_bide, lowers, no_other, raises, sleeps}
-use Rattle.gen1_effects.proofs.Chances.{ended}
-use Rattle.gen1_effects.proofs.ShiftingMoves.{falls-by, rises-by}
+use Rattle.gen1_effects.proofs.Passing.{ended}
+use Rattle.gen1_effects.proofs.StageReset.{falls-by, rises-by}
 use Rattle.gen1_effects.proofs.late_effects.group_two_knowing.Goals as goal
 
 pub returns-in-StatUp-clause-shown : goal.returns-in-StatUp-clause-shown

@@ -1,7 +1,7 @@
 use Rattle.std.proofs.Common.{◌≡◌}
 use Rattle.gen1_layout.proofs.Words.{active_in, ap, false, sym, true, ◌∙◌}
 use Rattle.gen1_tables.specs.Types.{same_type}
-use Rattle.gen1_tables.proofs.SameTypes.{same-is}
+use Rattle.gen1_tables.proofs.Named.{same-is}
 use Rattle.gen1_effects.proofs.targets.has_type.Goals as goal
 
 pub returns-then-eq : goal.returns-then-eq

@@ -1,4 +1,4 @@
-use Rattle.gen1_engine.proofs.Calls.{offered_is_accepted}
+use Rattle.gen1_engine.proofs.Making.{offered_is_accepted}
 use Rattle.gen1_engine.proofs.laws.offered_is_accepted.Goals as goal
 
 pub returns : goal.returns

@@ -1,6 +1,5 @@
 use Rattle.std.proofs.Common.{arith, length, subst, sym, ◌≡◌, ◌≤◌}
-use Rattle.gen1_rolls.specs.Steady.{StandsAt}
-use Rattle.gen1_rolls.specs.Link.{Ring, link, ring_at, ring_of}
+use Rattle.gen1_rolls.specs.Steady.{StandsAt, Ring, link, ring_at, ring_of}
 use Rattle.gen1_rolls.specs.Streams.{Link}
 use Rattle.gen1_rolls.proofs.Rings.{ring-stands, ring_at-stands}
 use Rattle.gen1_machine.specs.declared.side.Side.TheVariants.{One}
@@ -8,8 +7,8 @@ use Rattle.gen1_machine.specs.declared.terms.Request.TheVariants as requests
 use Rattle.gen1_machine.specs.Ruling.{ruling_of}
 use Rattle.gen1_machine.specs.Turn.{turn}
 use Rattle.gen1_machine.specs.Step.{close_update, opened}
-use Rattle.gen1_layout.specs.Within.{setting_of}
-use Rattle.gen1_offers.proofs.BetweenUpdates.{within_asked}
+use Rattle.gen1_layout.specs.Shows.{setting_of}
+use Rattle.gen1_offers.proofs.OfferedSet.{within_asked}
 use Rattle.gen1_engine.proofs.Making.{both_move, turn_made, turned_so}
 use Rattle.gen1_engine.proofs.update.step_turn.Goals as goal
 

@@ -1,10 +1,10 @@
 use Rattle.std.proofs.Common.{ap, arith, length}
 use Rattle.gen1_machine.specs.State.{State}
 use Rattle.gen1_machine.specs.Step.{step}
-use Rattle.gen1_layout.specs.Within.{Stands}
+use Rattle.gen1_layout.specs.Shows.{Stands}
 use Rattle.gen1_engine.specs.Update.{AreOffered}
-use Rattle.gen1_engine.proofs.Answering.{answers_accepted, answers_refused, none_left, tells_accepted, tells_refused}
-use Rattle.gen1_engine.proofs.Lists.{few_fit}
+use Rattle.gen1_engine.proofs.Making.{answers_accepted, answers_refused, none_left, tells_accepted, tells_refused}
+use Rattle.gen1_engine.proofs.Played.{few_fit}
 use Rattle.gen1_engine.proofs.update.update_events.Goals as goal
 
 pub returns-in-Some-clause-answers : goal.returns-in-Some-clause-answers

@@ -1,8 +1,8 @@
 use Rattle.gen1_machine.specs.State.{State}
 use Rattle.gen1_machine.specs.Step.{step}
-use Rattle.gen1_layout.specs.Within.{Stands}
+use Rattle.gen1_layout.specs.Shows.{Stands}
 use Rattle.gen1_engine.specs.Update.{AreOffered}
-use Rattle.gen1_engine.proofs.Answering.{answers_accepted, answers_refused, none_left}
+use Rattle.gen1_engine.proofs.Making.{answers_accepted, answers_refused, none_left}
 use Rattle.gen1_engine.proofs.update.update_silent.Goals as goal
 
 pub returns-in-Some-clause-answers : goal.returns-in-Some-clause-answers

@@ -1,6 +1,6 @@
 use Rattle.std.proofs.Common.{rules, ◌+◌}
 use Rattle.std.proofs.lemmas.List.FromFn.{fill_by_all}
-use Rattle.gen1_hits.specs.Factors.{varied}
+use Rattle.gen1_hits.specs.DamageNumbers.{varied}
 use Rattle.gen1_hits.proofs.factors.at_factors.Goals as goal
 
 pub returns : goal.returns

@@ -1,5 +1,5 @@
 use Rattle.std.proofs.Common.{get_or, length, ℕ, ◌+◌, ◌<◌, ◌≡◌}
-use Rattle.gen1_hits.specs.Factors.{varied}
+use Rattle.gen1_hits.specs.DamageNumbers.{varied}
 use Rattle.gen1_hits.proofs.factors.at_factors.Given as goal
 
 -- The entries so far are written.

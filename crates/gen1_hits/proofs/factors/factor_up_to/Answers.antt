@@ -2,7 +2,7 @@ use Rattle.std.proofs.Common.{◌+◌, ◌≡◌}
 use Rattle.gen1_layout.proofs.Words.{arith, false, lit<, nat_le, nat_tests, refl, sym, true}
 use Rattle.gen1_rolls.specs.Streams.{byte_at}
 use Rattle.gen1_machine.specs.Damage.{rotated_right_1, times_factor}
-use Rattle.gen1_hits.proofs.Varying.{varied-most, vary-draws, vary-keeps}
+use Rattle.gen1_hits.proofs.Knowledge.{varied-most, vary-draws, vary-keeps}
 use Rattle.gen1_hits.proofs.factors.factor_up_to.Goals as goal
 
 pub returns-then-damage-le1-clause-varies : goal.returns-then-damage-le1-clause-varies

@@ -2,7 +2,7 @@ use Rattle.std.proofs.Common.{◌≡◌}
 use Rattle.gen1_layout.proofs.Words.{Bool, ap, arith, choose, false, if_not, if_so, nat_lt, nat_tests, refl, stay, stays, still, true}
 use Rattle.gen1_rolls.proofs.Standing.{alike_below}
 use Rattle.gen1_machine.specs.HitTest.{hits_below, miss}
-use Rattle.gen1_hits.proofs.Searching.{drawing_like}
+use Rattle.gen1_hits.proofs.Knowledge.{drawing_like}
 use Rattle.gen1_hits.proofs.hit_tests.draw_below.Goals as goal
 
 pub returns-then-draw_as-byte-clause-shown : goal.returns-then-draw_as-byte-clause-shown

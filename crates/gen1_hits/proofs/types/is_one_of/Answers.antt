@@ -1,5 +1,5 @@
 use Rattle.std.proofs.Common.{sym, ◌∙◌}
-use Rattle.gen1_tables.proofs.SameTypes.{same-is}
+use Rattle.gen1_tables.proofs.Named.{same-is}
 use Rattle.gen1_hits.proofs.types.is_one_of.Goals as goal
 
 pub returns-else-eq : goal.returns-else-eq

@@ -1,7 +1,7 @@
 use Rattle.std.proofs.Common.{ap, sym, ◌∙◌}
 use Rattle.gen1_machine.specs.State.{is_pass}
-use Rattle.gen1_layout.specs.Within.{setting_of}
-use Rattle.gen1_offers.proofs.BetweenUpdates.{packs_of}
+use Rattle.gen1_layout.specs.Shows.{setting_of}
+use Rattle.gen1_offers.proofs.OfferedSet.{packs_of}
 use Rattle.gen1_host.proofs.LoadedHosts.{lawful_missing, lawful_pass, lawful_stated, not_lawful, not_lawful_pass}
 use Rattle.gen1_host.proofs.loading.is_lawful.Goals as goal
 

@@ -1,5 +1,5 @@
 use Rattle.std.proofs.Common.{List, subst, sym, ℕ}
-use Rattle.gen1_events.specs.Splits.{IsReading}
+use Rattle.gen1_events.specs.Reader.{IsReading}
 use Rattle.gen1_player.proofs.Retellings.{not_read}
 use Rattle.gen1_host.proofs.loading.is_log.Goals as goal
 

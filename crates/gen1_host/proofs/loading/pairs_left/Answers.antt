@@ -1,8 +1,8 @@
 use Rattle.std.proofs.Common.{ap, arith, sym, ◌-◌, ◌≡◌, ◌∙◌}
 use Rattle.gen1_machine.specs.State.{is_over}
 use Rattle.gen1_engine.specs.declared.result.BattleResult.{BattleResult}
-use Rattle.gen1_layout.specs.Within.{setting_of}
-use Rattle.gen1_offers.proofs.BetweenUpdates.{packs_of}
+use Rattle.gen1_layout.specs.Shows.{setting_of}
+use Rattle.gen1_offers.proofs.OfferedSet.{packs_of}
 use Rattle.gen1_room.specs.Rooms.{is_replaced}
 use Rattle.std.specs.Prelude.{if◌then◌else◌}
 use Rattle.gen1_host.proofs.LoadedHosts.{pairs_are}

@@ -1,6 +1,6 @@
 use Rattle.std.proofs.Common.{subst, sym}
 use Rattle.gen1_layout.specs.Loading.{PassesOfRequests, PassesOfStats}
-use Rattle.gen1_layout.proofs.LoadingTests.{all_tests, before_requests, before_stats}
+use Rattle.gen1_layout.proofs.LoadingForms.{all_tests, before_requests, before_stats}
 use Rattle.gen1_layout.proofs.loading.tested.Goals as goal
 
 pub returns-then-not-pass-4 : goal.returns-then-not-pass-4

@@ -1,4 +1,4 @@
-use Rattle.gen1_machine.proofs.Bounds.{act_is_bounded}
+use Rattle.gen1_machine.proofs.TurnCosts.{act_is_bounded}
 use Rattle.gen1_machine.proofs.laws.act_is_bounded.Goals as goal
 
 pub returns : goal.returns

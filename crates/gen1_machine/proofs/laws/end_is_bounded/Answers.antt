@@ -1,4 +1,4 @@
-use Rattle.gen1_machine.proofs.Bounds.{end_is_bounded}
+use Rattle.gen1_machine.proofs.TurnCosts.{end_is_bounded}
 use Rattle.gen1_machine.proofs.laws.end_is_bounded.Goals as goal
 
 pub returns : goal.returns

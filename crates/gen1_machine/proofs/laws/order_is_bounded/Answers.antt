@@ -1,4 +1,4 @@
-use Rattle.gen1_machine.proofs.Bounds.{order_is_bounded}
+use Rattle.gen1_machine.proofs.TurnCosts.{order_is_bounded}
 use Rattle.gen1_machine.proofs.laws.order_is_bounded.Goals as goal
 
 pub returns : goal.returns

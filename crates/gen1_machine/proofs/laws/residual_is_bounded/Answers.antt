@@ -1,4 +1,4 @@
-use Rattle.gen1_machine.proofs.Bounds.{residual_is_bounded}
+use Rattle.gen1_machine.proofs.TurnCosts.{residual_is_bounded}
 use Rattle.gen1_machine.proofs.laws.residual_is_bounded.Goals as goal
 
 pub returns : goal.returns

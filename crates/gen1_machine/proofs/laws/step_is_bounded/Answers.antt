@@ -1,4 +1,4 @@
-use Rattle.gen1_machine.proofs.Bounds.{step_is_bounded}
+use Rattle.gen1_machine.proofs.TurnCosts.{step_is_bounded}
 use Rattle.gen1_machine.proofs.laws.step_is_bounded.Goals as goal
 
 pub returns : goal.returns

@@ -1,4 +1,4 @@
-use Rattle.gen1_machine.proofs.Bounds.{switch_is_bounded}
+use Rattle.gen1_machine.proofs.TurnCosts.{switch_is_bounded}
 use Rattle.gen1_machine.proofs.laws.switch_is_bounded.Goals as goal
 
 pub returns : goal.returns

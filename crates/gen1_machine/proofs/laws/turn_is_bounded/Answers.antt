@@ -1,4 +1,4 @@
-use Rattle.gen1_machine.proofs.Bounds.{turn_is_bounded}
+use Rattle.gen1_machine.proofs.TurnCosts.{turn_is_bounded}
 use Rattle.gen1_machine.proofs.laws.turn_is_bounded.Goals as goal
 
 pub returns : goal.returns

@@ -1,4 +1,4 @@
-use Rattle.gen1_machine.proofs.Bounds.{update_is_bounded}
+use Rattle.gen1_machine.proofs.TurnCosts.{update_is_bounded}
 use Rattle.gen1_machine.proofs.laws.update_is_bounded.Goals as goal
 
 pub returns : goal.returns

@@ -2,7 +2,7 @@ use Rattle.std.proofs.Common.{◌%◌, ◌+◌, ◌≡◌}
 use Rattle.gen1_layout.proofs.Words.{Phase, Progress, ap, choose, choose-false, choose-true, draw, false, nat_le, sym, true, ℕ, ◌∙◌, drawn_next}
 use Rattle.gen1_rolls.specs.Streams.{byte_at}
 use Rattle.gen1_machine.specs.GoingOn.{count_again, count_by_draw, draw_count}
-use Rattle.gen1_status.proofs.Comparing.{at_most, not_at_most}
+use Rattle.gen1_status.proofs.Statuses.{at_most, not_at_most}
 use Rattle.gen1_rolls.specs.Draws.{by_then}
 use Rattle.gen1_multiturn.proofs.counts.draw_count.Goals as goal
 

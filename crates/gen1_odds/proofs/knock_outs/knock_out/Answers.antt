@@ -4,7 +4,7 @@ use Rattle.gen1_layout.specs.Words.{move_at}
 use Rattle.gen1_odds.specs.KnockOut.{AreChances, needed_in}
 use Rattle.gen1_odds.specs.Odds.{flag}
 use Rattle.gen1_odds.specs.Trials.{has_substitute_in}
-use Rattle.gen1_odds.proofs.UsesInARow.{fixed_is, usual_is}
+use Rattle.gen1_odds.proofs.Counts.{fixed_is, usual_is}
 use Rattle.gen1_odds.proofs.knock_outs.knock_out.Goals as goal
 
 pub returns-then-deals_usual-clause-stands : goal.returns-then-deals_usual-clause-stands

@@ -6,7 +6,7 @@ use Rattle.gen1_layout.specs.Words.{move_at}
 use Rattle.gen1_odds.specs.KnockOut.{AreThree, between_in, needed_in}
 use Rattle.gen1_odds.specs.Odds.{flag}
 use Rattle.gen1_odds.specs.Trials.{has_substitute_in}
-use Rattle.gen1_odds.proofs.UsesInARow.{target_is, three_fixed_is, three_usual_is}
+use Rattle.gen1_odds.proofs.Counts.{target_is, three_fixed_is, three_usual_is}
 use Rattle.gen1_odds.proofs.knock_outs.knock_out_in_three.Goals as goal
 
 pub returns-then-deals_usual-clause-stands : goal.returns-then-deals_usual-clause-stands

@@ -2,9 +2,9 @@ use Rattle.std.proofs.Common.{ap, arith, inl, inr, sym, ◌∙◌, ◌≡◌, �
 use Rattle.std.specs.Prelude.{max}
 use Rattle.gen1_machine.specs.State.{active_in}
 use Rattle.gen1_machine.specs.Valid.{IsStarted, IsUnstarted}
-use Rattle.gen1_layout.specs.Within.{setting_of}
+use Rattle.gen1_layout.specs.Shows.{setting_of}
 use Rattle.gen1_layout.proofs.Storing.{within_of}
-use Rattle.gen1_offers.proofs.BetweenUpdates.{packs_of}
+use Rattle.gen1_offers.proofs.OfferedSet.{packs_of}
 use Rattle.gen1_offers.proofs.Benches.{nobody-out, out_is}
 use Rattle.gen1_offers.proofs.bench.first_out.Goals as goal
 

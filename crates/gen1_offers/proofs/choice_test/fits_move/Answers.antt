@@ -2,10 +2,9 @@ use Rattle.std.proofs.Common.{sym, ◌≡◌, ◌∙◌}
 use Rattle.gen1_machine.specs.declared.choice.Choice.TheVariants as choices
 use Rattle.gen1_machine.specs.declared.terms.Request.TheVariants as requests
 use Rattle.gen1_machine.specs.State.{request_of}
-use Rattle.gen1_layout.specs.Within.{setting_of}
-use Rattle.gen1_offers.proofs.BetweenUpdates.{packs_of, within_asked}
-use Rattle.gen1_offers.proofs.MaskDigits.{asks_move}
-use Rattle.gen1_offers.proofs.TestedChoice.{move_unasked, offers_asked}
+use Rattle.gen1_layout.specs.Shows.{setting_of}
+use Rattle.gen1_offers.proofs.OfferedSet.{packs_of, within_asked}
+use Rattle.gen1_offers.proofs.MaskDigits.{asks_move, move_unasked, offers_asked}
 use Rattle.gen1_offers.proofs.choice_test.fits_move.Goals as goal
 
 pub returns-then-asked-ne1 : goal.returns-then-asked-ne1

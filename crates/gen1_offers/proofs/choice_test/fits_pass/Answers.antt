@@ -1,8 +1,8 @@
 use Rattle.std.proofs.Common.{Bool, ap, not, sym, ◌∙◌}
 use Rattle.gen1_machine.specs.State.{is_over}
-use Rattle.gen1_layout.specs.Within.{setting_of}
-use Rattle.gen1_offers.proofs.BetweenUpdates.{packs_of}
-use Rattle.gen1_offers.proofs.TestedChoice.{pass_asked, pass_unasked}
+use Rattle.gen1_layout.specs.Shows.{setting_of}
+use Rattle.gen1_offers.proofs.OfferedSet.{packs_of}
+use Rattle.gen1_offers.proofs.MaskDigits.{pass_asked, pass_unasked}
 use Rattle.gen1_offers.proofs.choice_test.fits_pass.Goals as goal
 
 pub returns-then-asked-ne0 : goal.returns-then-asked-ne0

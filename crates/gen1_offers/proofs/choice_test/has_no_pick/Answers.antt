@@ -6,8 +6,7 @@ use Rattle.gen1_machine.specs.Sides.{other}
 use Rattle.gen1_machine.specs.State.{status_in, underway_in}
 use Rattle.gen1_machine.specs.declared.side.Side.{Side}
 use Rattle.gen1_layout.proofs.Steps.{member_ok}
-use Rattle.gen1_offers.proofs.MaskDigits.{awake, not_awake}
-use Rattle.gen1_offers.proofs.TestedChoice.{pick_tests}
+use Rattle.gen1_offers.proofs.MaskDigits.{awake, not_awake, pick_tests}
 use Rattle.gen1_offers.proofs.choice_test.has_no_pick.Goals as goal
 
 pub returns-then-has_any : goal.returns-then-has_any

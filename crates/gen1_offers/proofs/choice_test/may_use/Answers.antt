@@ -1,8 +1,8 @@
 use Rattle.std.proofs.Common.{List, ap, arith, get_or, nat_lt, not, sym, ℕ, ◌&&◌, ◌∙◌}
 use Rattle.gen1_machine.specs.OfferedChoices.{bars_slot, has_no_slot_in, is_committed}
 use Rattle.gen1_machine.specs.State.{conditions_in, underway_in}
-use Rattle.gen1_offers.proofs.OneChoice.{slot_above}
-use Rattle.gen1_offers.proofs.TestedChoice.{neither, unpicked_slot}
+use Rattle.gen1_offers.proofs.OfferedSet.{slot_above}
+use Rattle.gen1_offers.proofs.MaskDigits.{neither, unpicked_slot}
 use Rattle.gen1_offers.proofs.choice_test.may_use.Goals as goal
 
 pub returns-then-slot-eq0 : goal.returns-then-slot-eq0

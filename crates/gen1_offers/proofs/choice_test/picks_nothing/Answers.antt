@@ -1,7 +1,7 @@
 use Rattle.std.proofs.Common.{ap, sym, ℕ, ◌==◌, ◌∙◌}
 use Rattle.gen1_layout.proofs.Steps.{member_ok}
-use Rattle.gen1_offers.proofs.OneChoice.{committed_slot, no_slot, slot_zero}
-use Rattle.gen1_offers.proofs.TestedChoice.{none_usable}
+use Rattle.gen1_offers.proofs.OfferedSet.{committed_slot, no_slot, slot_zero}
+use Rattle.gen1_offers.proofs.MaskDigits.{none_usable}
 use Rattle.gen1_offers.proofs.choice_test.picks_nothing.Goals as goal
 
 pub returns-then-is_committed : goal.returns-then-is_committed

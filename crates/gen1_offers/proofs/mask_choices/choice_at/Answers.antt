@@ -3,8 +3,7 @@ use Rattle.std.proofs.lemmas.List.{get_or-append_right, get_or_append_left}
 use Rattle.gen1_machine.specs.declared.choice.Choice.{Choice}
 use Rattle.gen1_machine.specs.declared.choice.Choice.TheVariants as choices
 use Rattle.gen1_offers.specs.OfferedMask.{choices_in, chosen_by, moves_and_pass, switches}
-use Rattle.gen1_offers.proofs.MaskChoices.{offered_chosen}
-use Rattle.gen1_offers.proofs.MaskTable.{halves}
+use Rattle.gen1_offers.proofs.MaskChoices.{offered_chosen, halves}
 use Rattle.gen1_offers.proofs.mask_choices.choice_at.Goals as goal
 
 pub digit_in-requires-else-place-count-clause-inside : goal.digit_in-requires-else-place-count-clause-inside

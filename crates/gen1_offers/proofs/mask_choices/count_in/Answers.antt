@@ -1,6 +1,6 @@
 use Rattle.std.proofs.Common.{ap, arith, refl, subst, sym, ℕ, ◌%◌, ◌/◌, ◌^◌, ◌∙◌, ◌≡◌, ◌≤◌}
 use Rattle.gen1_offers.specs.OfferedMask.{moves_and_pass}
-use Rattle.gen1_offers.proofs.MaskTable.{chosen-most, counts, row_of}
+use Rattle.gen1_offers.proofs.MaskChoices.{chosen-most, counts, row_of}
 use Rattle.gen1_offers.proofs.mask_choices.count_in.Goals as goal
 
 pub returns-clause-count : goal.returns-clause-count

@@ -1,7 +1,6 @@
 use Rattle.std.proofs.Common.{ap, arith, length, length-append, refl, ◌%◌, ◌/◌, ◌∙◌}
 use Rattle.gen1_offers.specs.OfferedMask.{choices_in, chosen_by, moves_and_pass, switches}
-use Rattle.gen1_offers.proofs.MaskChoices.{offered_chosen}
-use Rattle.gen1_offers.proofs.MaskTable.{halves}
+use Rattle.gen1_offers.proofs.MaskChoices.{offered_chosen, halves}
 use Rattle.gen1_offers.proofs.mask_choices.count_of.Goals as goal
 
 pub returns-clause-value : goal.returns-clause-value

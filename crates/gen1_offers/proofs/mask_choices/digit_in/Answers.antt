@@ -1,7 +1,7 @@
 use Rattle.std.proofs.Common.{ap, arith, get_or, refl, ℕ, ◌%◌, ◌*◌, ◌/◌, ◌<◌, ◌^◌, ◌∙◌, ◌≡◌}
 use Rattle.gen1_machine.specs.declared.choice.Choice.TheVariants as choices
 use Rattle.gen1_offers.specs.OfferedMask.{switches}
-use Rattle.gen1_offers.proofs.MaskTable.{counts, finds, row_of}
+use Rattle.gen1_offers.proofs.MaskChoices.{counts, finds, row_of}
 use Rattle.gen1_offers.proofs.mask_choices.digit_in.Goals as goal
 
 pub returns-clause-at : goal.returns-clause-at

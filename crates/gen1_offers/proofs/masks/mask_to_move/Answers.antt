@@ -6,9 +6,8 @@ use Rattle.gen1_machine.specs.State.{member_at, party}
 use Rattle.gen1_machine.specs.Step.{is_among}
 use Rattle.gen1_layout.proofs.Steps.{packed_of}
 use Rattle.gen1_offers.specs.OfferedMask.{digits_of, living_of, mask_of, moves_and_pass, passing}
-use Rattle.gen1_offers.proofs.Digits.{six_below}
+use Rattle.gen1_offers.proofs.MaskDigits.{six_below, both_digits}
 use Rattle.gen1_offers.proofs.Benches.{out_is}
-use Rattle.gen1_offers.proofs.MaskDigits.{both_digits}
 use Rattle.gen1_offers.proofs.masks.mask_to_move.Goals as goal
 
 pub returns-then-is_committed-clause-stands : goal.returns-then-is_committed-clause-stands

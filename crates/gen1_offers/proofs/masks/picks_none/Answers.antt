@@ -6,7 +6,7 @@ use Rattle.gen1_machine.specs.Sides.{other}
 use Rattle.gen1_machine.specs.State.{status_in, underway_in}
 use Rattle.gen1_machine.specs.declared.side.Side.{Side}
 use Rattle.gen1_layout.proofs.Steps.{member_ok}
-use Rattle.gen1_offers.proofs.Collecting.{or_of_or}
+use Rattle.gen1_offers.proofs.OfferedSet.{or_of_or}
 use Rattle.gen1_offers.proofs.MaskDigits.{awake, not_awake}
 use Rattle.gen1_offers.proofs.masks.picks_none.Goals as goal
 

@@ -1,4 +1,4 @@
-use Rattle.gen1_offers.proofs.Digits.{four_bytes}
+use Rattle.gen1_offers.proofs.MaskDigits.{four_bytes}
 use Rattle.gen1_offers.proofs.masks.some_of_four.Goals as goal
 
 pub returns-clause-digits : goal.returns-clause-digits

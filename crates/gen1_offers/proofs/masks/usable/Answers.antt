@@ -1,9 +1,8 @@
 use Rattle.std.proofs.Common.{Option, Some, arith, nat_lt, subst, ◌≤◌}
 use Rattle.gen1_machine.specs.declared.picks.DisabledSlot.{DisabledSlot}
 use Rattle.gen1_machine.specs.State.{known_in, member_in, conditions_in}
-use Rattle.gen1_layout.specs.Storable.{IsStorableDisabled}
-use Rattle.gen1_layout.proofs.Blocks.{party_in}
-use Rattle.gen1_layout.proofs.Steps.{member_ok}
+use Rattle.gen1_layout.specs.Shows.{IsStorableDisabled}
+use Rattle.gen1_layout.proofs.Steps.{party_in, member_ok}
 use Rattle.std.proofs.Common.{length, sym}
 use Rattle.gen1_offers.proofs.MaskDigits.{disabled_taken, none_taken, slots_read}
 use Rattle.gen1_offers.proofs.masks.usable.Goals as goal

@@ -3,8 +3,8 @@ use Rattle.gen1_machine.specs.declared.choice.Choice.{Choice}
 use Rattle.gen1_machine.specs.declared.choice.Choice.TheVariants as choices
 use Rattle.gen1_machine.specs.State.{party}
 use Rattle.gen1_machine.specs.OfferedChoices.{others_living_from}
-use Rattle.gen1_layout.proofs.Blocks.{party_in}
-use Rattle.gen1_offers.proofs.Collecting.{collect, collected_more, comes_out, one_passed_over, places_living}
+use Rattle.gen1_layout.proofs.Steps.{party_in}
+use Rattle.gen1_offers.proofs.OfferedSet.{collect, collected_more, comes_out, one_passed_over, places_living}
 use Rattle.gen1_offers.proofs.offered_choices.add_switches.Goals as goal
 
 pub loop-place-preserved : goal.loop-place-preserved

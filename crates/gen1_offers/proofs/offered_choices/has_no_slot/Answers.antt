@@ -3,7 +3,7 @@ use Rattle.gen1_machine.specs.declared.side.Side.{Side}
 use Rattle.gen1_stats.specs.Members.{sleeps_or_freezes}
 use Rattle.gen1_machine.specs.Sides.{other}
 use Rattle.gen1_machine.specs.State.{status_in, underway_in}
-use Rattle.gen1_offers.proofs.Collecting.{or_of_or}
+use Rattle.gen1_offers.proofs.OfferedSet.{or_of_or}
 use Rattle.gen1_offers.proofs.offered_choices.has_no_slot.Goals as goal
 
 pub returns : goal.returns

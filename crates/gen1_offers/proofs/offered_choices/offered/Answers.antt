@@ -1,8 +1,8 @@
 use Rattle.std.proofs.Common.{ap, sym, ◌∙◌}
 use Rattle.gen1_machine.specs.State.{is_over}
 use Rattle.gen1_machine.specs.OfferedChoices.{offered}
-use Rattle.gen1_layout.specs.Within.{setting_of}
-use Rattle.gen1_offers.proofs.BetweenUpdates.{is_over_unless, packs_of}
+use Rattle.gen1_layout.specs.Shows.{setting_of}
+use Rattle.gen1_offers.proofs.OfferedSet.{is_over_unless, packs_of}
 use Rattle.gen1_offers.proofs.offered_choices.offered.Goals as goal
 
 pub returns-in-Ongoing : goal.returns-in-Ongoing

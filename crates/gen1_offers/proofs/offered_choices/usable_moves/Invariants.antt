@@ -2,8 +2,8 @@
 use Rattle.std.proofs.Common.{length, ◌-◌, ◌≡◌, ◌≤◌}
 use Rattle.gen1_machine.specs.declared.choice.Choice.TheVariants as choices
 use Rattle.gen1_machine.specs.State.{Field}
-use Rattle.gen1_layout.specs.Within.{Setting, Within}
-use Rattle.gen1_offers.proofs.Collecting.{collect, usable_at}
+use Rattle.gen1_layout.specs.Shows.{Setting, Within}
+use Rattle.gen1_offers.proofs.OfferedSet.{collect, usable_at}
 use Rattle.gen1_offers.proofs.offered_choices.usable_moves.Given as goal
 
 abbrev pub invariant-loop-slot : goal.invariant-loop-slot

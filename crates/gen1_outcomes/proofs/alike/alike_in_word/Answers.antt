@@ -1,6 +1,6 @@
 use Rattle.std.proofs.Common.{arith, ℕ, Bool, ap, sym, cond, ◌≡◌, ◌==◌, ◌∙◌, ◌+◌}
 use Rattle.std.specs.Int.{bit_at}
-use Rattle.gen1_outcomes.specs.Classes.{alike_in, told}
+use Rattle.gen1_outcomes.specs.Bytes.{alike_in, told}
 use Rattle.gen1_outcomes.proofs.Sets.{keeps_more, keeps_zeros, none_kept}
 use Rattle.std.proofs.lemmas.Nat.Bits.{shr_and_one}
 use Rattle.gen1_outcomes.proofs.alike.alike_in_word.Goals.{then-word-place-eq0, else-word-place-eq0}

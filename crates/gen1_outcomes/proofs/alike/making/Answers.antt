@@ -2,9 +2,8 @@ use Rattle.std.proofs.Common.{ap, arith, cond, inl, inr, max, min, nat_le, nat_l
 use Rattle.std.proofs.Math.Nat.{le-div_iff_mul-le, mul-add, mul_comm}
 use Rattle.std.proofs.lemmas.Bool.Decides.{nat_tests}
 use Rattle.std.proofs.lemmas.Nat.Bits.{bit_at-lt}
-use Rattle.gen1_rolls.specs.Looks.{rotated_right_1}
-use Rattle.gen1_outcomes.specs.Bytes.{has}
-use Rattle.gen1_outcomes.specs.Classes.{least_factor}
+use Rattle.gen1_rolls.specs.Streams.{rotated_right_1}
+use Rattle.gen1_outcomes.specs.Bytes.{has, least_factor}
 use Rattle.gen1_outcomes.proofs.Sets.{same_test}
 use Rattle.gen1_outcomes.proofs.alike.making.Goals.{else-run-limit, then-run-limit}
 use Rattle.gen1_outcomes.proofs.alike.making.Goals as goal

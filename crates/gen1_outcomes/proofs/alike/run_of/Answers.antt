@@ -1,5 +1,5 @@
 use Rattle.std.proofs.Common.{ap, arith, inl, inr, nat_le, sym, ◌&&◌, ◌*◌, ◌+◌, ◌/◌, ◌∙◌, ℕ}
-use Rattle.gen1_outcomes.specs.Classes.{last_factor}
+use Rattle.gen1_outcomes.specs.Bytes.{last_factor}
 use Rattle.gen1_outcomes.proofs.Runs.{begins_as, few_classes, first_most, run_below, run_from}
 use Rattle.gen1_outcomes.proofs.alike.run_of.Goals.{else-class-eq0, then-class-eq0}
 use Rattle.gen1_outcomes.proofs.alike.run_of.Goals as goal

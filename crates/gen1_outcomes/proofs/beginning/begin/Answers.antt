@@ -15,14 +15,14 @@ use Rattle.gen1_machine.specs.Sides.{other}
 use Rattle.gen1_machine.specs.Step.{close_update}
 use Rattle.gen1_machine.specs.TurnOrder.{in_order}
 use Rattle.gen1_machine.specs.Turn.{Acts, both_act, both_pick, do_part, do_parts, of_side, set_picked, turn}
-use Rattle.gen1_machine.proofs.ValidTurns.{act_part, both_plan, both-plan_of, set_picked-keeps, suffers_part, with_plan-other}
-use Rattle.gen1_layout.specs.Within.{setting_of}
+use Rattle.gen1_machine.proofs.ValidSteps.{act_part, both_plan, both-plan_of, set_picked-keeps, suffers_part, with_plan-other}
+use Rattle.gen1_layout.specs.Shows.{setting_of}
 use Rattle.gen1_layout.proofs.Storing.{within_of}
 use Rattle.gen1_hits.specs.declared.known.Known.{Known}
 use Rattle.gen1_hits.specs.Knowing.{ShowsOver, knowing, nothing_yet, with_broke}
 use Rattle.gen1_switching.specs.Updates.{drawing_on}
 use Rattle.gen1_hits.specs.Planned.{Follows}
-use Rattle.gen1_switching.proofs.OfferedChoices.{planned, reopened, started}
+use Rattle.gen1_switching.proofs.Stepped.{planned, reopened, started}
 use Rattle.gen1_turn.specs.TurnParts.{PartLeaves}
 use Rattle.gen1_turn.proofs.Turns.{flinch-planned, picked-both, picked-fits, play-moves}
 use Rattle.gen1_outcomes.specs.Beginning.{Begins, picked, second_action, unflinched}

@@ -2,7 +2,7 @@ use Rattle.std.proofs.Common.{refl}
 use Rattle.gen1_layout.proofs.Words.{Progress, false, quietly}
 use Rattle.gen1_machine.specs.Step.{close_update}
 use Rattle.gen1_machine.specs.Turn.{end_turn}
-use Rattle.gen1_switching.proofs.OfferedChoices.{reopened}
+use Rattle.gen1_switching.proofs.Stepped.{reopened}
 use Rattle.gen1_turn.proofs.Turns.{ended_uncut}
 use Rattle.gen1_outcomes.proofs.beginning.close_turn.Goals as goal
 

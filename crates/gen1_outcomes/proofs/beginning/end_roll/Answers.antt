@@ -1,9 +1,8 @@
 use Rattle.std.proofs.Common.{Bool, ap, false, inl, refl, subst, sym, true, ℕ, ◌≡◌, ◌∙◌}
 use Rattle.gen1_layout.proofs.Words.{Event, Frame, List, Parts, Progress, ShowsDrawn, Side, Told}
 use Rattle.gen1_layout.proofs.Chain.{choose-false, choose-true}
-use Rattle.gen1_layout.specs.Shows.{Telling}
+use Rattle.gen1_layout.specs.Shows.{Telling, Setting}
 use Rattle.gen1_layout.specs.Words.{move_at}
-use Rattle.gen1_layout.specs.Within.{Setting}
 use Rattle.gen1_rolls.specs.Draws.{Drawing, Source, StandsIn, by_then}
 use Rattle.gen1_machine.specs.declared.side.Side.TheVariants.{One}
 use Rattle.gen1_machine.specs.Damage.{vary}

@@ -1,7 +1,7 @@
 use Rattle.std.proofs.Common.{ap, ap₂, min, ◌-◌, ℕ, ◌∙◌}
 use Rattle.std.proofs.lemmas.Nat.Bits.{bit_at_and}
 use Rattle.std.specs.Int.{bit_at}
-use Rattle.gen1_outcomes.proofs.Repeated.{only_odd}
+use Rattle.gen1_outcomes.proofs.Sets.{only_odd}
 use Rattle.gen1_outcomes.proofs.byte_set.between.Goals as goal
 
 pub returns-then-first-ge128 : goal.returns-then-first-ge128

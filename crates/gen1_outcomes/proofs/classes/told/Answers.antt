@@ -2,8 +2,8 @@ use Rattle.std.proofs.Common.{◌≡◌, ◌≢◌, ℕ, ◌*◌, ◌-◌, ◌<�
 use Rattle.std.proofs.Math.Nat.{div-lt_iff_lt-mul, div-le_of_le-mul, mul-le-mul_left, mul-le-mul_right}
 use Rattle.gen1_rolls.specs.declared.look.Look.{Look}
 use Rattle.gen1_rolls.specs.declared.look.Look.TheVariants.{Factor}
-use Rattle.gen1_rolls.specs.Looks.{rotated_right_1, sees}
-use Rattle.gen1_outcomes.specs.Classes.{KeepsEdgeApart, class_of, damage_by, least_factor, part_told, told}
+use Rattle.gen1_rolls.specs.Streams.{rotated_right_1, sees}
+use Rattle.gen1_outcomes.specs.Bytes.{KeepsEdgeApart, class_of, damage_by, least_factor, part_told, told}
 use Rattle.gen1_outcomes.proofs.classes.told.Goals as goal
 
 -- A roll makes no more damage than it begins with.

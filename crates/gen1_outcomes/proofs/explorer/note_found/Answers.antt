@@ -1,9 +1,9 @@
 use Rattle.std.proofs.Common.{inr, refl, subst, sym, ◌⊎◌}
 use Rattle.gen1_outcomes.specs.declared.nodes.Asked.TheVariants.{First}
+use Rattle.gen1_outcomes.specs.Nodes.{IsFresh, IsSettled, NotesNew}
 use Rattle.gen1_outcomes.specs.Bytes.{ArePassing, IsNone}
 use Rattle.gen1_outcomes.specs.declared.nodes.Nodes.{Nodes}
-use Rattle.gen1_outcomes.specs.Nodes.{IsFresh, IsSettled, NotesNew}
-use Rattle.gen1_rolls.specs.Looks.{passes}
+use Rattle.gen1_rolls.specs.Streams.{passes}
 use Rattle.gen1_outcomes.proofs.explorer.note_found.Goals as goal
 
 pub returns-then-not-pass-clause-noted : goal.returns-then-not-pass-clause-noted

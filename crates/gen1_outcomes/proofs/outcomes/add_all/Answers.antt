@@ -1,6 +1,6 @@
 use Rattle.std.proofs.Common.{inl, sym, ◌∙◌}
-use Rattle.gen1_layout.specs.Within.{setting_of}
-use Rattle.gen1_offers.proofs.BetweenUpdates.{packs_of}
+use Rattle.gen1_layout.specs.Shows.{setting_of}
+use Rattle.gen1_offers.proofs.OfferedSet.{packs_of}
 use Rattle.gen1_outcomes.proofs.Complete.{every_from, on_ok_map}
 use Rattle.gen1_outcomes.proofs.Weights.{adds_update}
 use Rattle.gen1_outcomes.proofs.outcomes.add_all.Goals as goal

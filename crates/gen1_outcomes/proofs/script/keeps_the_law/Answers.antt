@@ -1,13 +1,11 @@
 use Rattle.std.proofs.Common.{◌≡◌, ℕ, zero, suc, ◌⊎◌, inl, inr, ◌+◌, ◌-◌, ◌%◌, ◌<◌, ◌≤◌, Bool, true, false, refl, ap, ◌∙◌, arith, slice_index, nat_lt}
 use Rattle.std.proofs.lemmas.Bool.Decides.{nat_tests}
-use Rattle.gen1_rolls.specs.Steady.{draws_of, stream_of}
+use Rattle.gen1_rolls.specs.Steady.{draws_of, stream_of, one_up}
 use Rattle.gen1_rolls.specs.Streams.{iterate, IsStream, HoldsEveryByte}
-use Rattle.gen1_rolls.specs.Sweep.{one_up}
-use Rattle.gen1_rolls.proofs.Period.{iterate-add}
-use Rattle.gen1_rolls.proofs.Standing.{stream_of-is}
-use Rattle.gen1_rolls.proofs.Sweeps.{iterate-one_up}
+use Rattle.gen1_rolls.proofs.First.{iterate-add}
+use Rattle.gen1_rolls.proofs.Standing.{stream_of-is, iterate-one_up}
 use Rattle.gen1_outcomes.specs.declared.script.Script.{Script}
-use Rattle.gen1_outcomes.specs.Script.{after_draw, next_byte, scripted}
+use Rattle.gen1_outcomes.specs.Nodes.{after_draw, next_byte, scripted}
 use Rattle.gen1_outcomes.proofs.script.keeps_the_law.Goals as goal
 
 -- Given bytes and number are bytes.

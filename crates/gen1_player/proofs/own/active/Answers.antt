@@ -1,6 +1,6 @@
 use Rattle.std.proofs.Common.{refl, sym, ◌∙◌, ◌≡◌}
-use Rattle.gen1_layout.specs.Within.{setting_of}
-use Rattle.gen1_offers.proofs.BetweenUpdates.{packs_of}
+use Rattle.gen1_layout.specs.Shows.{setting_of}
+use Rattle.gen1_offers.proofs.OfferedSet.{packs_of}
 use Rattle.gen1_player.proofs.Fairness.{nobody_before, place_out, within_out}
 use Rattle.gen1_player.proofs.own.active.Goals as goal
 

@@ -3,8 +3,8 @@ use Rattle.gen1_machine.specs.declared.side.Side.{Side}
 use Rattle.gen1_machine.specs.Rules.{bit_of}
 use Rattle.gen1_machine.specs.Sides.{other}
 use Rattle.gen1_machine.specs.State.{underway_in}
-use Rattle.gen1_layout.specs.Within.{setting_of}
-use Rattle.gen1_offers.proofs.BetweenUpdates.{packs_of}
+use Rattle.gen1_layout.specs.Shows.{setting_of}
+use Rattle.gen1_offers.proofs.OfferedSet.{packs_of}
 use Rattle.gen1_player.proofs.Fairness.{nobody_before, within_out}
 use Rattle.gen1_player.proofs.own.held.Goals as goal
 

@@ -1,8 +1,8 @@
 use Rattle.std.proofs.Common.{[], refl, sym, ◌∙◌, ◌∷◌}
 use Rattle.std.proofs.lemmas.List.Elements.{All-from_recursion}
-use Rattle.gen1_layout.specs.Within.{setting_of}
+use Rattle.gen1_layout.specs.Shows.{setting_of}
 use Rattle.gen1_machine.specs.State.{party}
-use Rattle.gen1_offers.proofs.BetweenUpdates.{packs_of}
+use Rattle.gen1_offers.proofs.OfferedSet.{packs_of}
 use Rattle.gen1_player.specs.OwnSide.{IsListedMember}
 use Rattle.gen1_player.proofs.Fairness.{as_many, fault_fits, shown_at}
 use Rattle.gen1_player.proofs.own.own_side.Goals as goal

@@ -1,9 +1,9 @@
 use Rattle.std.proofs.Common.{arith, refl, ◌∙◌}
 use Rattle.gen1_stats.specs.Members.{Member}
 use Rattle.gen1_machine.specs.State.{party}
-use Rattle.gen1_layout.specs.Within.{setting_of}
-use Rattle.gen1_offers.proofs.BetweenUpdates.{packs_of}
-use Rattle.gen1_playouts.proofs.Weighing.{sums-more}
+use Rattle.gen1_layout.specs.Shows.{setting_of}
+use Rattle.gen1_offers.proofs.OfferedSet.{packs_of}
+use Rattle.gen1_playouts.proofs.Playing.{sums-more}
 use Rattle.gen1_playouts.proofs.ahead.hp_unhurt.Goals as goal
 
 pub loop-before-init : goal.loop-before-init

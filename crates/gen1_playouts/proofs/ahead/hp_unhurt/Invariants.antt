@@ -2,7 +2,7 @@
 use Rattle.std.proofs.Common.{◌*◌, ◌≡◌, ◌≤◌}
 use Rattle.gen1_stats.specs.Members.{Member}
 use Rattle.gen1_machine.specs.State.{State, party}
-use Rattle.gen1_layout.specs.Within.{Stands}
+use Rattle.gen1_layout.specs.Shows.{Stands}
 use Rattle.gen1_playouts.specs.Playouts.{sum_in}
 use Rattle.gen1_playouts.proofs.ahead.hp_unhurt.Given as goal
 

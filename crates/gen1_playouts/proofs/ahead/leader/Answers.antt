@@ -1,4 +1,4 @@
-use Rattle.gen1_playouts.proofs.Weighing.{leads}
+use Rattle.gen1_playouts.proofs.Playing.{leads}
 use Rattle.gen1_playouts.proofs.ahead.leader.Goals as goal
 
 pub returns : goal.returns

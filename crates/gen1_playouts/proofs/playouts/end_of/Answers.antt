@@ -1,8 +1,8 @@
 use Rattle.std.proofs.Common.{subst, sym}
-use Rattle.gen1_rolls.specs.Link.{ring_of}
+use Rattle.gen1_rolls.specs.Steady.{ring_of}
 use Rattle.gen1_engine.specs.Reseed.{reseeded}
 use Rattle.gen1_layout.specs.Parts.{Parts}
-use Rattle.gen1_layout.specs.Within.{Stands}
+use Rattle.gen1_layout.specs.Shows.{Stands}
 use Rattle.gen1_playouts.proofs.Playing.{begins-with, plays-round}
 use Rattle.gen1_playouts.proofs.playouts.end_of.Goals as goal
 

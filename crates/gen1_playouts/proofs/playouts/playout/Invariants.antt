@@ -1,7 +1,7 @@
 -- That many playouts are counted.
 use Rattle.std.proofs.Common.{◌≡◌}
 use Rattle.gen1_machine.specs.State.{State}
-use Rattle.gen1_layout.specs.Within.{Stands}
+use Rattle.gen1_layout.specs.Shows.{Stands}
 use Rattle.gen1_playouts.specs.Playouts.{PlaysOut, tally, total}
 use Rattle.gen1_playouts.proofs.playouts.playout.Given as goal
 

@@ -2,9 +2,9 @@
 use Rattle.std.proofs.Common.{◌≡◌}
 use Rattle.gen1_machine.specs.declared.side.Side.TheVariants.{One, Two}
 use Rattle.gen1_machine.specs.State.{State}
-use Rattle.gen1_layout.specs.Within.{Stands}
-use Rattle.gen1_offers.specs.Bench.{IsInRange}
-use Rattle.gen1_playouts.proofs.Benched.{Rounds}
+use Rattle.gen1_layout.specs.Shows.{Stands}
+use Rattle.gen1_offers.specs.OfferedMask.{IsInRange}
+use Rattle.gen1_playouts.proofs.Playing.{Rounds}
 use Rattle.gen1_playouts.proofs.playouts.run.Given as goal
 
 abbrev pub invariant-updates : goal.invariant-updates

@@ -3,7 +3,7 @@ use Rattle.gen1_machine.specs.declared.choice.Choice.{Choice}
 use Rattle.gen1_machine.specs.declared.choice.Choice.TheVariants.{Pass}
 use Rattle.gen1_offers.specs.OfferedMask.{choices_in}
 use Rattle.gen1_playouts.specs.Playouts.{IsDrawn, choice_by, next_state, repeated}
-use Rattle.gen1_playouts.proofs.Weighing.{weighted-none, weighted-some}
+use Rattle.gen1_playouts.proofs.Playing.{weighted-none, weighted-some}
 use Rattle.gen1_playouts.proofs.weights.pick_weighted.Goals as goal
 
 pub returns-then-sum-eq0 : goal.returns-then-sum-eq0

@@ -1,7 +1,7 @@
 use Rattle.std.proofs.Common.{ap, arith, drop, length, ℕ, ◌+◌, ◌≡◌}
 use Rattle.gen1_offers.specs.OfferedMask.{all_choices, choices_in, chosen_by}
 use Rattle.gen1_playouts.specs.Playouts.{repeated}
-use Rattle.gen1_playouts.proofs.Weighing.{length-first, weight-listed}
+use Rattle.gen1_playouts.proofs.Playing.{length-first, weight-listed}
 use Rattle.gen1_playouts.proofs.weights.sum_of.Goals as goal
 
 pub loop-digit-init : goal.loop-digit-init

@@ -1,5 +1,5 @@
 use Rattle.std.proofs.Common.{arith, sym, ◌∙◌}
-use Rattle.gen1_playouts.proofs.Weighing.{weight-even, weight-odd}
+use Rattle.gen1_playouts.proofs.Playing.{weight-even, weight-odd}
 use Rattle.gen1_playouts.proofs.weights.weight_at.Goals as goal
 
 pub returns-then-mask-eq1-clause-value : goal.returns-then-mask-eq1-clause-value

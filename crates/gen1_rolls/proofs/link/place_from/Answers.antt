@@ -1,6 +1,6 @@
 use Rattle.std.proofs.Common.{ℕ, ◌<◌, IsFalse, arith, false, slice_index, sym, true}
 use Rattle.std.proofs.lemmas.List.Elements.{All-from_get_or}
-use Rattle.gen1_rolls.proofs.Rounds.{one_more}
+use Rattle.gen1_rolls.proofs.Rings.{one_more}
 use Rattle.gen1_rolls.proofs.link.place_from.Goals as goal
 
 pub places-init : goal.places-init

@@ -1,7 +1,7 @@
 use Rattle.std.proofs.Common.{arith, ℕ, ◌%◌, ◌*◌, ◌/◌, ◌<◌, ◌∙◌, ◌≡◌}
 use Rattle.std.proofs.lemmas.Nat.{or_comm, or_shifted}
 use Rattle.std.specs.Int.{rotate_right, w8}
-use Rattle.gen1_rolls.specs.Looks.{rotated_right_1}
+use Rattle.gen1_rolls.specs.Streams.{rotated_right_1}
 use Rattle.gen1_rolls.proofs.look.rotated_right_1.Goals as goal
 
 rotated-is : (b : ℕ) → b < 256 → rotate_right w8 b 1 ≡ rotated_right_1 b

@@ -1,8 +1,7 @@
 use Rattle.std.proofs.Common.{◌≡◌, ◌<◌, ap, sym, ◌∙◌, arith}
 use borrow.Author.Count.{below_more}
-use Rattle.gen1_rolls.specs.Looks.{passes}
+use Rattle.gen1_rolls.specs.Streams.{passes, iterate}
 use Rattle.gen1_rolls.specs.Steady.{draws_of}
-use Rattle.gen1_rolls.specs.Streams.{iterate}
 use Rattle.gen1_rolls.proofs.Standing.{draws_of-full, iterate-more, finds_as, finds_none, none_meets, full_from, stands_at_itself}
 use Rattle.gen1_rolls.proofs.steady.search_from.Goals as goal
 

@@ -1,7 +1,6 @@
 use Rattle.std.proofs.Common.{◌≡◌, ℕ, IsFalse, ◌<◌}
-use Rattle.gen1_rolls.specs.Looks.{passes}
+use Rattle.gen1_rolls.specs.Streams.{passes, iterate, HoldsEveryByte}
 use Rattle.gen1_rolls.specs.Steady.{draws_of}
-use Rattle.gen1_rolls.specs.Streams.{iterate, HoldsEveryByte}
 use Rattle.gen1_rolls.proofs.steady.search_from.Given as goal
 
 abbrev pub invariant-draws : goal.invariant-draws

@@ -1,5 +1,5 @@
 use Rattle.std.proofs.Common.{arith}
-use Rattle.gen1_rolls.proofs.Sweeps.{sweep_is_stream}
+use Rattle.gen1_rolls.proofs.Standing.{sweep_is_stream}
 use Rattle.gen1_rolls.proofs.sweep.step.Goals as goal
 
 pub returns-clause-stream : goal.returns-clause-stream

@@ -1,6 +1,6 @@
 use Rattle.gen1_machine.specs.Room.{after}
-use Rattle.gen1_room.proofs.Counting.{counts_held}
-use Rattle.gen1_room.proofs.Choosing.{advances, ends_one, ends_two, waits_one, waits_two}
+use Rattle.gen1_room.proofs.Ending.{counts_held}
+use Rattle.gen1_room.proofs.Rooms.{advances, ends_one, ends_two, waits_one, waits_two}
 use Rattle.gen1_room.proofs.submission.choose.Goals as goal
 
 pub end_pair-requires : goal.end_pair-requires

@@ -1,6 +1,5 @@
 use Rattle.std.proofs.Common.{arith}
-use Rattle.gen1_room.proofs.Counting.{number_fits}
-use Rattle.gen1_room.proofs.Ending.{end_holds, not_refused}
+use Rattle.gen1_room.proofs.Ending.{number_fits, end_holds, not_refused}
 use Rattle.gen1_room.proofs.submission.end_pair.Goals as goal
 
 pub overflow_add-held : goal.overflow_add-held

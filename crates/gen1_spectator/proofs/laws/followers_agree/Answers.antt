@@ -3,7 +3,7 @@ use Rattle.std.specs.List.{flat_map}
 use Rattle.gen1_machine.specs.State.{first_state}
 use Rattle.gen1_machine.specs.Step.{events_of, run}
 use Rattle.gen1_machine.proofs.Spectators.{watcher_knows}
-use Rattle.gen1_spectator.proofs.Logs.{followed_told, joined_reading, told_all, told_no_fault}
+use Rattle.gen1_spectator.proofs.Following.{followed_told, joined_reading, told_all, told_no_fault}
 use Rattle.gen1_spectator.proofs.laws.followers_agree.Goals as goal
 
 pub returns-clause-agree : goal.returns-clause-agree

@@ -1,7 +1,6 @@
 use Rattle.std.proofs.Common.{refl, sym, ◌∙◌, ◌≡◌}
-use Rattle.gen1_layout.specs.Within.{setting_of}
-use Rattle.gen1_states.proofs.Between.{packs_of}
-use Rattle.gen1_states.proofs.Between.{not_zero, within_out}
+use Rattle.gen1_layout.specs.Shows.{setting_of}
+use Rattle.gen1_states.proofs.There.{packs_of, not_zero, within_out}
 use Rattle.gen1_states.proofs.reading.active_now.Goals as goal
 
 pub returns-then-turn-eq0 : goal.returns-then-turn-eq0

@@ -4,7 +4,7 @@ use Rattle.gen1_machine.specs.declared.event.Volatile.TheVariants as volatiles
 use Rattle.gen1_machine.specs.Conditions.{with_bide}
 use Rattle.gen1_machine.specs.LateEffects.{bide_for, start_bide}
 use Rattle.gen1_machine.specs.Progress.{starts}
-use Rattle.gen1_hits.proofs.Searching.{drawing_like}
+use Rattle.gen1_hits.proofs.Knowledge.{drawing_like}
 use Rattle.gen1_status.proofs.bide.start_bide.Goals as goal
 
 pub returns-clause-shown : goal.returns-clause-shown

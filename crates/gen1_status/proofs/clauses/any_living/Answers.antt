@@ -1,7 +1,7 @@
 use Rattle.gen1_layout.proofs.Words.{Member, party}
 use Rattle.gen1_layout.proofs.WaysBack.{members_in}
-use Rattle.gen1_status.specs.Clauses.{counts}
-use Rattle.gen1_status.proofs.Six.{any_of_six}
+use Rattle.gen1_status.specs.Statuses.{counts}
+use Rattle.gen1_status.proofs.Statuses.{any_of_six}
 use Rattle.gen1_status.proofs.clauses.any_living.Goals as goal
 
 pub returns : goal.returns

@@ -4,7 +4,7 @@ use Rattle.gen1_machine.specs.declared.event.Volatile.TheVariants as volatiles
 use Rattle.gen1_machine.specs.Conditions.{with_confusion}
 use Rattle.gen1_machine.specs.EarlyEffects.{confuse, confused_by}
 use Rattle.gen1_machine.specs.Progress.{starts}
-use Rattle.gen1_hits.proofs.Searching.{drawing_like}
+use Rattle.gen1_hits.proofs.Knowledge.{drawing_like}
 use Rattle.gen1_status.proofs.confusion.confuse.Goals as goal
 
 pub returns-clause-shown : goal.returns-clause-shown

@@ -2,7 +2,7 @@ use Rattle.gen1_layout.proofs.Steps.{member_ok}
 use Rattle.gen1_machine.specs.State.{status_in}
 use Rattle.gen1_layout.proofs.Words.{Bool, List, Side, [], ap, false, is_some, refl, sym, true, underway_in, ℕ, ◌∙◌}
 use Rattle.std.proofs.Common.{get_or, not, ◌∷◌, ◌≡◌}
-use Rattle.gen1_status.proofs.Untested.{free-is}
+use Rattle.gen1_status.proofs.Told.{free-is}
 use Rattle.gen1_status.proofs.gate_tests.acts_at_once.Goals as goal
 
 not-so : (b : Bool) → not b ≡ true → b ≡ false

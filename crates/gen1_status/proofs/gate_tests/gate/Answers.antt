@@ -3,8 +3,7 @@ use Rattle.gen1_machine.specs.declared.event.CantReason.TheVariants as reasons
 use Rattle.gen1_machine.specs.Gate.{cant}
 use Rattle.gen1_machine.proofs.Steady.{cant-steady}
 use Rattle.gen1_status.specs.declared.gate_answer.Gate.TheVariants.{Go, Stop}
-use Rattle.gen1_status.proofs.Untested.{gate-acts, held-is, held-not}
-use Rattle.gen1_status.proofs.Told.{drawn_tells, outcome-steady, still_tells, tells}
+use Rattle.gen1_status.proofs.Told.{gate-acts, held-is, held-not, drawn_tells, outcome-steady, still_tells, tells}
 use Rattle.gen1_status.proofs.gate_tests.gate.Goals as goal
 
 pub returns-then-is_held-clause-shown : goal.returns-then-is_held-clause-shown

@@ -3,7 +3,7 @@ use Rattle.gen1_machine.specs.Conditions.{broken_off, without_flinch, without_in
 use Rattle.gen1_machine.specs.Damage.{before_types, DamageNumbers}
 use Rattle.gen1_machine.specs.HitOnItself.{hurt_itself, hurt_itself_by}
 use Rattle.gen1_machine.proofs.Keeps.{on_conditions-keeps}
-use Rattle.gen1_status.proofs.Clearing.{flinch-same, invulnerability-same}
+use Rattle.gen1_status.proofs.Statuses.{flinch-same, invulnerability-same}
 use Rattle.gen1_status.proofs.Told.{conditions-spare, tells_given, then_tells}
 use Rattle.gen1_status.proofs.hit_on_itself.hurt_itself.Goals as goal
 

@@ -1,4 +1,4 @@
-use Rattle.gen1_status.proofs.Fitting.{status_of_kind-fits}
+use Rattle.gen1_status.proofs.Statuses.{status_of_kind-fits}
 use Rattle.gen1_status.proofs.infliction.inflict.Goals as goal
 
 pub returns-clause-shown : goal.returns-clause-shown

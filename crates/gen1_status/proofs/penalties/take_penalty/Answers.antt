@@ -3,7 +3,7 @@ use Rattle.std.proofs.Common.{max, ◌+◌, ◌/◌, ◌≡◌}
 use Rattle.gen1_stats.specs.declared.status.Status.TheVariants.{Asleep, Burned, Frozen, Healthy, Paralysed, Poisoned}
 use Rattle.gen1_machine.specs.CurrentStats.{with_penalty_of}
 use Rattle.gen1_machine.specs.Stages.{at_stage, divided_times}
-use Rattle.gen1_status.proofs.Unchanged.{changed_active-same}
+use Rattle.gen1_status.proofs.Statuses.{changed_active-same}
 use Rattle.gen1_status.proofs.penalties.take_penalty.Goals as goal
 
 pub returns-in-Paralysed : goal.returns-in-Paralysed

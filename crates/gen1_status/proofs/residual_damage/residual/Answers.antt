@@ -1,6 +1,6 @@
 use Rattle.gen1_layout.proofs.Words.{goes, if_not, if_so, refl, seeing, stays, sym, ◌∙◌}
 use Rattle.gen1_machine.specs.ResidualDamage.{residual, suffer_status}
-use Rattle.gen1_status.proofs.Untested.{residual-spares}
+use Rattle.gen1_status.proofs.Told.{residual-spares}
 use Rattle.gen1_status.proofs.residual_damage.residual.Goals as goal
 
 pub returns-then-not-is_living-clause-shown : goal.returns-then-not-is_living-clause-shown

@@ -1,7 +1,7 @@
 use Rattle.gen1_layout.proofs.Words.{put_on_conditions, refl}
 use Rattle.gen1_machine.specs.Conditions.{with_worse_poison}
 use Rattle.gen1_machine.specs.ResidualDamage.{worsen}
-use Rattle.gen1_status.proofs.Fitting.{one_more-fits}
+use Rattle.gen1_status.proofs.Statuses.{one_more-fits}
 use Rattle.gen1_status.proofs.residual_damage.worsen.Goals as goal
 
 pub returns : goal.returns

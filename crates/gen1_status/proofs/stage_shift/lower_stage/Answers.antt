@@ -2,10 +2,8 @@ use Rattle.std.proofs.Common.{◌+◌, ◌-◌, ◌≡◌}
 use Rattle.gen1_layout.proofs.Words.{active_in, active_ok, arith, false, given, member_in, nat_le, nat_tests, put_on_active, quietly, sym, true, ◌∙◌}
 use Rattle.gen1_machine.specs.CurrentStats.{at_new_stage, penalties_of, unmodified}
 use Rattle.gen1_machine.specs.StageShift.{lower_from, lower_stage, note_unboost, stage_in}
-use Rattle.gen1_status.proofs.Fitting.{stage_of-fits}
-use Rattle.gen1_status.proofs.Restaging.{at_new_stage-is, now-at_new_stage, stands_at-now}
-use Rattle.gen1_status.proofs.Shifting.{moves_back, moves_on, stays_last}
-use Rattle.gen1_status.proofs.Staying.{least_stays}
+use Rattle.gen1_status.proofs.Statuses.{stage_of-fits}
+use Rattle.gen1_status.proofs.Shifting.{at_new_stage-is, now-at_new_stage, stands_at-now, moves_back, moves_on, stays_last, least_stays}
 use Rattle.gen1_status.proofs.stage_shift.lower_stage.Goals as goal
 
 pub returns-then-stage-eq-LOWEST_STAGE-clause-shown : goal.returns-then-stage-eq-LOWEST_STAGE-clause-shown

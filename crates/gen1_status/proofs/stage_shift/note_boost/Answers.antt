@@ -1,6 +1,6 @@
 use Rattle.gen1_layout.proofs.Words.{if_not, if_so, noted, refl, stays, sym, ◌∙◌}
 use Rattle.gen1_machine.specs.StageShift.{note_boost}
-use Rattle.gen1_status.proofs.Fitting.{moved, not_moved}
+use Rattle.gen1_status.proofs.Statuses.{moved, not_moved}
 use Rattle.gen1_status.proofs.stage_shift.note_boost.Goals as goal
 
 pub returns-in-Some-clause-shown : goal.returns-in-Some-clause-shown

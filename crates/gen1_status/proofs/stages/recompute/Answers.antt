@@ -4,7 +4,7 @@ use mir.Val.{SFits}
 use Rattle.gen1_machine.specs.CurrentStats.{recomputed_at, unmodified}
 use Rattle.gen1_machine.specs.Stages.{now_at}
 use Rattle.gen1_machine.specs.State.{active_in, member_in}
-use Rattle.gen1_status.proofs.Restaging.{now-recomputed_at, recomputed_at-is}
+use Rattle.gen1_status.proofs.Shifting.{now-recomputed_at, recomputed_at-is}
 use Rattle.gen1_status.proofs.stages.recompute.Goals as goal
 
 pub returns : goal.returns

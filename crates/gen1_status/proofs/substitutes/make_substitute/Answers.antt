@@ -1,7 +1,7 @@
 use Rattle.gen1_layout.proofs.Words.{arith, if_so, past, refl, seeing, stops, sym, ◌∙◌}
 use Rattle.gen1_machine.specs.EarlyEffects.{make_substitute, pay_for_substitute}
 use Rattle.gen1_machine.specs.Progress.{fails_if}
-use Rattle.gen1_status.proofs.Comparing.{below, not_below}
+use Rattle.gen1_status.proofs.Statuses.{below, not_below}
 use Rattle.gen1_status.proofs.substitutes.make_substitute.Goals as goal
 
 pub returns-then-is_on-clause-shown : goal.returns-then-is_on-clause-shown

@@ -1,5 +1,5 @@
 use Rattle.std.proofs.Common.{not, sym, ◌∙◌}
-use Rattle.gen1_layout.proofs.Blocks.{party_in}
+use Rattle.gen1_layout.proofs.Steps.{party_in}
 use Rattle.gen1_layout.proofs.Words.{ap, choose-false, false, if_not, if_so, passing, past, stay, stops, true}
 use Rattle.gen1_machine.specs.declared.side.Side.TheVariants.{One, Two}
 use Rattle.gen1_machine.specs.Falls.{end_if_decided, settle}

@@ -1,7 +1,6 @@
 use Rattle.std.proofs.Common.{false, sym, ◌≡◌, ◌∙◌}
 use Rattle.gen1_machine.specs.State.{has_fallen_in}
-use Rattle.gen1_layout.proofs.Steps.{packed_of}
-use Rattle.gen1_layout.proofs.Blocks.{party_in}
+use Rattle.gen1_layout.proofs.Steps.{packed_of, party_in}
 use Rattle.gen1_switching.proofs.Closed.{lives_out}
 use Rattle.gen1_switching.proofs.falls.has_living.Goals as goal
 

@@ -6,11 +6,10 @@ use Rattle.gen1_machine.specs.Ruling.{ruling_of}
 use Rattle.gen1_machine.specs.State.{State}
 use Rattle.gen1_machine.specs.SwitchingIn.{replace}
 use Rattle.gen1_machine.specs.Step.{close_update, opened}
-use Rattle.gen1_layout.specs.Within.{setting_of, Stands}
+use Rattle.gen1_layout.specs.Shows.{setting_of, Stands}
 use Rattle.gen1_layout.proofs.Storing.{within_of}
 use Rattle.gen1_switching.specs.Updates.{frame_of, Plays, Updated}
-use Rattle.gen1_switching.proofs.OfferedChoices.{comes_offered, reopened, started}
-use Rattle.gen1_switching.proofs.Stepped.{replaced-so}
+use Rattle.gen1_switching.proofs.Stepped.{comes_offered, reopened, started, replaced-so}
 use Rattle.gen1_switching.proofs.start_and_replace.replace.Goals as goal
 
 pub returns : goal.returns

@@ -1,6 +1,6 @@
 use Rattle.gen1_layout.proofs.Words.{goes}
 use Rattle.gen1_machine.specs.SwitchingIn.{replace}
-use Rattle.gen1_switching.proofs.OfferedChoices.{comes-after}
+use Rattle.gen1_switching.proofs.Stepped.{comes-after}
 use Rattle.gen1_switching.proofs.start_and_replace.send_both_chosen.Goals as goal
 
 pub returns-clause-shown : goal.returns-clause-shown

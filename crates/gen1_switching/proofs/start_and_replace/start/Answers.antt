@@ -4,10 +4,9 @@ use Rattle.gen1_machine.specs.Ruling.{ruling_of}
 use Rattle.gen1_machine.specs.State.{State}
 use Rattle.gen1_machine.specs.SwitchingIn.{start}
 use Rattle.gen1_machine.specs.Step.{close_update, opened}
-use Rattle.gen1_layout.specs.Within.{setting_of, Stands}
+use Rattle.gen1_layout.specs.Shows.{setting_of, Stands}
 use Rattle.gen1_switching.specs.Updates.{frame_of, Starts, Updated}
-use Rattle.gen1_switching.proofs.OfferedChoices.{reopened}
-use Rattle.gen1_switching.proofs.Stepped.{started-so}
+use Rattle.gen1_switching.proofs.Stepped.{reopened, started-so}
 use Rattle.gen1_switching.proofs.start_and_replace.start.Goals as goal
 
 pub returns : goal.returns

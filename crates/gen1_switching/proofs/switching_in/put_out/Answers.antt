@@ -3,7 +3,7 @@ use Rattle.gen1_layout.proofs.Words.{packed_of, party}
 use Rattle.gen1_layout.proofs.WaysBack.{ok_inside}
 use Rattle.gen1_machine.specs.Layout.{member_block}
 use Rattle.gen1_machine.specs.State.{member_at}
-use Rattle.gen1_layout.specs.SentOut.{own_stats_of}
+use Rattle.gen1_layout.specs.Shows.{own_stats_of}
 use Rattle.gen1_switching.proofs.SwitchingIn.{own_stats_out}
 use Rattle.gen1_switching.proofs.switching_in.put_out.Goals as goal
 

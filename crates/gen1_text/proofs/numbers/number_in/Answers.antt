@@ -1,6 +1,6 @@
 use Rattle.std.proofs.Common.{arith, sym, ◌∙◌}
 use Rattle.std.proofs.lemmas.Bool.Decides.{nat_tests}
-use Rattle.gen1_text.proofs.NumberLemmas.{number_of-empty, number_on-digit_at, number_on-end_at, number_on-large, number_on-other_at, number_on-start}
+use Rattle.gen1_text.proofs.TextLemmas.{number_of-empty, number_on-digit_at, number_on-end_at, number_on-large, number_on-other_at, number_on-start}
 use Rattle.gen1_text.proofs.numbers.number_in.Goals as goal
 
 pub returns-then-is_empty : goal.returns-then-is_empty

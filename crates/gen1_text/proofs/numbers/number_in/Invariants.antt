@@ -1,5 +1,5 @@
 use Rattle.std.proofs.Common.{◌≡◌, ◌≤◌, drop}
-use Rattle.gen1_text.proofs.NumberLemmas.{number_on}
+use Rattle.gen1_text.proofs.TextLemmas.{number_on}
 use Rattle.gen1_text.proofs.numbers.number_in.Given as goal
 
 abbrev pub invariant-loop-digit : goal.invariant-loop-digit

@@ -1,7 +1,7 @@
 use Rattle.std.proofs.Common.{[], ap, ◌∙◌}
 use Rattle.std.specs.Prelude.{slice_index_or}
-use Rattle.gen1_text.specs.PackedFields.{field}
-use Rattle.gen1_text.specs.PieceLists.{pieces_left}
+use Rattle.gen1_text.specs.Packed.{field}
+use Rattle.gen1_text.specs.Words.{pieces_left}
 use Rattle.gen1_text.proofs.packed_field.field.Goals as goal
 
 pub loop-piece-init : goal.loop-piece-init

@@ -1,7 +1,7 @@
 use Rattle.std.proofs.Common.{[], ◌≡◌}
 use Rattle.std.specs.Prelude.{slice_index_or}
-use Rattle.gen1_text.specs.PieceLists.{pieces_left}
-use Rattle.gen1_text.specs.PackedFields.{field}
+use Rattle.gen1_text.specs.Words.{pieces_left}
+use Rattle.gen1_text.specs.Packed.{field}
 use Rattle.gen1_text.proofs.packed_field.field.Given as goal
 
 abbrev pub invariant-loop-piece : goal.invariant-loop-piece

@@ -1,7 +1,6 @@
 use Rattle.std.proofs.Common.{ap, arith, length, sym, take, ◌<◌, ◌∙◌, ◌≡◌, ◌≤◌}
 use Rattle.std.proofs.lemmas.Grind.{common_steps}
-use Rattle.gen1_text.specs.PieceLists.{pieces_left}
-use Rattle.gen1_text.specs.Words.{pieces_of}
+use Rattle.gen1_text.specs.Words.{pieces_left, pieces_of}
 use Rattle.gen1_text.proofs.PackedLemmas.{numbers_end, numbers_go, numbers_stop, six_numbers-other, six_numbers-six}
 use Rattle.gen1_text.proofs.packed_field.six_numbers.Goals as goal
 

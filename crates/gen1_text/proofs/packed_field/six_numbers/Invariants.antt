@@ -1,7 +1,6 @@
 use Rattle.std.proofs.Common.{length, take, ◌+◌, ◌≡◌}
-use Rattle.gen1_text.specs.PieceLists.{pieces_left}
-use Rattle.gen1_text.specs.PackedFields.{each_number}
-use Rattle.gen1_text.specs.Words.{pieces_of}
+use Rattle.gen1_text.specs.Words.{pieces_left, pieces_of}
+use Rattle.gen1_text.specs.Packed.{each_number}
 use Rattle.gen1_text.proofs.PackedLemmas.{with_front}
 use Rattle.gen1_text.proofs.packed_field.six_numbers.Given as goal
 

@@ -1,7 +1,7 @@
 use Rattle.std.proofs.Common.{arith, length, sym, ◌<◌, ◌∙◌, ◌≡◌}
 use Rattle.std.proofs.lemmas.Bool.Decides.{nat_tests}
 use Rattle.std.proofs.lemmas.Result.{err_from_is_err_and}
-use Rattle.gen1_text.specs.PieceLists.{pieces_left}
+use Rattle.gen1_text.specs.Words.{pieces_left}
 use Rattle.gen1_text.proofs.PackedLemmas.{moves_end, moves_go, moves_skip, moves_stop}
 use Rattle.gen1_text.proofs.packed_field.with_moves.Goals as goal
 

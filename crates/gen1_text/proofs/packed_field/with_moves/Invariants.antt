@@ -1,7 +1,6 @@
 use Rattle.std.proofs.Common.{◌≡◌}
-use Rattle.gen1_text.specs.PieceLists.{pieces_left}
-use Rattle.gen1_text.specs.PackedFields.{with_moves}
-use Rattle.gen1_text.specs.Words.{pieces_of}
+use Rattle.gen1_text.specs.Words.{pieces_left, pieces_of}
+use Rattle.gen1_text.specs.Packed.{with_moves}
 use Rattle.gen1_text.proofs.packed_field.with_moves.Given as goal
 
 abbrev pub invariant-loop-name : goal.invariant-loop-name

@@ -1,7 +1,7 @@
 use Rattle.std.proofs.Common.{arith, sym, ◌∙◌}
 use Rattle.std.proofs.lemmas.Grind.{common_steps}
-use Rattle.gen1_text.specs.PieceLists.{pieces_left}
-use Rattle.gen1_text.proofs.SpreadLemmas.{parts_go, parts_stop}
+use Rattle.gen1_text.specs.Words.{pieces_left}
+use Rattle.gen1_text.proofs.TextLemmas.{parts_go, parts_stop}
 use Rattle.gen1_text.proofs.spread.spread_in.Goals as goal
 
 pub returns-in_err-stat : goal.returns-in_err-stat

@@ -3,7 +3,7 @@ use Rattle.gen1_machine.specs.Action.{act}
 use Rattle.gen1_machine.specs.State.{is_over}
 use Rattle.gen1_machine.proofs.Acts.{begin-quiet}
 use Rattle.gen1_hits.proofs.Knowledge.{begun_so}
-use Rattle.gen1_turn.proofs.ActionEnds.{resumed}
+use Rattle.gen1_turn.proofs.Turns.{resumed}
 use Rattle.gen1_turn.proofs.action.act.Goals as goal
 
 pub returns-clause-shown : goal.returns-clause-shown

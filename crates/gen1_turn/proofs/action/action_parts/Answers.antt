@@ -5,7 +5,7 @@ use Rattle.gen1_machine.specs.Ruling.{ruling_of}
 use Rattle.gen1_status.proofs.Told.{went}
 use Rattle.gen1_hits.proofs.Knowledge.{does_still, over, over_stops}
 use Rattle.gen1_hits.proofs.Planning.{awake, before-from, gates, sees, taken-number, taking-from, used-fits}
-use Rattle.gen1_turn.proofs.ActionEnds.{over_gate}
+use Rattle.gen1_turn.proofs.Turns.{over_gate}
 use Rattle.gen1_rolls.specs.Draws.{by_then}
 use Rattle.gen1_turn.proofs.action.action_parts.Goals as goal
 

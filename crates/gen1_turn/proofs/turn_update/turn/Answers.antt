@@ -8,13 +8,12 @@ use Rattle.gen1_machine.specs.Progress.{new_action, Progress}
 use Rattle.gen1_machine.specs.Ruling.{ruling_of}
 use Rattle.gen1_machine.specs.Turn.{turn}
 use Rattle.gen1_machine.specs.Step.{close_update}
-use Rattle.gen1_machine.proofs.ValidTurns.{both_plan, both-plan_of}
-use Rattle.gen1_layout.specs.Shows.{Frame}
-use Rattle.gen1_layout.specs.Within.{setting_of}
+use Rattle.gen1_machine.proofs.ValidSteps.{both_plan, both-plan_of}
+use Rattle.gen1_layout.specs.Shows.{Frame, setting_of}
 use Rattle.gen1_layout.proofs.Storing.{within_of}
 use Rattle.gen1_hits.specs.Knowing.{knowing, with_broke}
 use Rattle.gen1_switching.specs.Updates.{drawing_on}
-use Rattle.gen1_switching.proofs.OfferedChoices.{planned, reopened, started}
+use Rattle.gen1_switching.proofs.Stepped.{planned, reopened, started}
 use Rattle.gen1_turn.proofs.Living.{begins-whole, both-bring}
 use Rattle.gen1_turn.proofs.turn_update.turn.Goals as goal
 

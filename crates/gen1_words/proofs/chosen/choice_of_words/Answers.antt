@@ -1,6 +1,6 @@
 use Rattle.std.proofs.Common.{Bool, List, ap, filter, sym, ◌&&◌, ◌∙◌, ◌≡◌}
-use Rattle.gen1_layout.specs.Within.{setting_of}
-use Rattle.gen1_offers.proofs.BetweenUpdates.{packs_of}
+use Rattle.gen1_layout.specs.Shows.{setting_of}
+use Rattle.gen1_offers.proofs.OfferedSet.{packs_of}
 use Rattle.gen1_machine.specs.OfferedChoices.{offered}
 use Rattle.gen1_machine.specs.Step.{is_among}
 use Rattle.gen1_machine.specs.declared.choice.Choice.{Choice}

@@ -1,5 +1,5 @@
 use Rattle.std.proofs.Common.{List, ap, arith, length, ℕ, ◌++◌, ◌∙◌, ◌∷◌, []}
-use Rattle.gen1_writer.proofs.Joins.{line_next, move_within}
+use Rattle.gen1_writer.proofs.Parts.{line_next, move_within}
 use Rattle.gen1_writer.proofs.export.move_lines.Goals as goal
 
 pub loop-id-preserved : goal.loop-id-preserved

@@ -1,4 +1,4 @@
-use Rattle.gen1_writer.proofs.Arithmetic.{ev_found, ev_passed}
+use Rattle.gen1_writer.proofs.Parts.{ev_found, ev_passed}
 use Rattle.gen1_writer.proofs.numbers.ev.Goals as goal
 
 pub returns-then-exp-from : goal.returns-then-exp-from

@@ -1,7 +1,7 @@
 use Rattle.std.proofs.Common.{ap, arith, ◌∙◌}
 use Rattle.gen1_tables.specs.Names.{move_name}
 use Rattle.gen1_text.specs.Ids.{id_of}
-use Rattle.gen1_writer.proofs.Joins.{join_next}
+use Rattle.gen1_writer.proofs.Parts.{join_next}
 use Rattle.gen1_writer.proofs.packed.packed_moves.Goals as goal
 
 pub add_next-requires : goal.add_next-requires

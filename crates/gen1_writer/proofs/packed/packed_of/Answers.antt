@@ -1,6 +1,6 @@
 use Rattle.std.proofs.Common.{arith, ◌∙◌}
-use Rattle.gen1_writer.specs.PackedLine.{packed_member}
-use Rattle.gen1_writer.proofs.Joins.{join_next}
+use Rattle.gen1_writer.specs.Export.{packed_member}
+use Rattle.gen1_writer.proofs.Parts.{join_next}
 use Rattle.gen1_writer.proofs.packed.packed_of.Goals as goal
 
 pub loop-index-preserved : goal.loop-index-preserved

@@ -1,6 +1,6 @@
 use Rattle.std.proofs.Common.{length, map, take, ◌*◌, ◌≡◌, ◌≤◌}
 use Rattle.std.specs.List.{join_with_byte}
-use Rattle.gen1_writer.specs.PackedLine.{packed_member}
+use Rattle.gen1_writer.specs.Export.{packed_member}
 use Rattle.gen1_writer.proofs.packed.packed_of.Given as goal
 
 abbrev pub invariant-loop-index : goal.invariant-loop-index

@@ -1,7 +1,7 @@
 use Rattle.std.proofs.Common.{ap, sym, ◌∙◌}
 use Rattle.gen1_text.specs.Packed.{members_packed, team_packed}
 use Rattle.gen1_writer.proofs.PackedBack.{packed_back, packed_team_back}
-use Rattle.gen1_writer.proofs.Writable.{none_of, of_none, writes}
+use Rattle.gen1_writer.proofs.Members.{none_of, of_none, writes}
 use Rattle.gen1_writer.proofs.written.team_to_packed.Goals as goal
 
 pub returns-clause-members : goal.returns-clause-members

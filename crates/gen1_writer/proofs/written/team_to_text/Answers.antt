@@ -1,7 +1,7 @@
 use Rattle.std.proofs.Common.{ap, sym, ◌∙◌}
 use Rattle.gen1_text.specs.Texts.{members_told, team_told}
 use Rattle.gen1_writer.proofs.ReadBack.{team_back, text_back}
-use Rattle.gen1_writer.proofs.Writable.{none_of, of_none, writes}
+use Rattle.gen1_writer.proofs.Members.{none_of, of_none, writes}
 use Rattle.gen1_writer.proofs.written.team_to_text.Goals as goal
 
 pub returns-clause-members : goal.returns-clause-members

@@ -1,5 +1,5 @@
 use Rattle.std.proofs.Common.{◌∙◌, ap, arith}
-use Rattle.gen1_rolls.specs.Link.{Ring, ring_of}
+use Rattle.gen1_rolls.specs.Steady.{Ring, ring_of}
 use Rattle.gen1_rolls.specs.Streams.{Link}
 use Rattle.gen1_rolls.proofs.Rings.{ring-stands}
 use Rattle.test_data.proofs.draws.index_behind.Goals as goal

@@ -1,7 +1,7 @@
 use Rattle.std.proofs.Common.{◌∙◌}
 use Rattle.gen1_rolls.proofs.Standing.{stands_at_itself}
 use Rattle.test_operations.specs.Countdown.{countdown}
-use Rattle.test_operations.proofs.Countdowns.{first_byte, own}
+use Rattle.test_operations.proofs.Draws.{first_byte, own}
 use Rattle.test_operations.proofs.at_countdown.gate_at.Goals as goal
 
 pub returns : goal.returns

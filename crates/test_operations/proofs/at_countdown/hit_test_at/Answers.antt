@@ -1,6 +1,6 @@
 use Rattle.gen1_rolls.proofs.Standing.{stands_at_itself}
 use Rattle.test_operations.specs.Countdown.{countdown}
-use Rattle.test_operations.proofs.Countdowns.{first_byte, own}
+use Rattle.test_operations.proofs.Draws.{first_byte, own}
 use Rattle.test_operations.proofs.at_countdown.hit_test_at.Goals as goal
 
 pub returns : goal.returns

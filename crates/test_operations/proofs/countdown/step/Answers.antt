@@ -1,5 +1,5 @@
 use Rattle.std.proofs.Common.{arith}
-use Rattle.test_operations.proofs.Countdowns.{countdown_is_stream}
+use Rattle.test_operations.proofs.Draws.{countdown_is_stream}
 use Rattle.test_operations.proofs.countdown.step.Goals as goal
 
 pub returns-clause-stream : goal.returns-clause-stream

@@ -7,7 +7,7 @@ use Rattle.gen1_machine.specs.HitTest.{scaled_in}
 use Rattle.gen1_machine.specs.Moves.{Move, accuracy_byte, move_at}
 use Rattle.gen1_machine.specs.Sides.{other}
 use Rattle.gen1_machine.specs.State.{Field, member_in}
-use Rattle.gen1_hits.specs.Factors.{damages}
+use Rattle.gen1_hits.specs.DamageNumbers.{damages}
 use Rattle.uses.specs.declared.calculator.Calculation.{Calculation}
 use Rattle.uses.specs.Calculations.{calculation_in, calculation_of, taking_all}
 use Rattle.uses.proofs.calculator.calculate.Goals as goal

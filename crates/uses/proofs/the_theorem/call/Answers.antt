@@ -1,7 +1,7 @@
 use Rattle.std.proofs.Common.{ap, length, subst, sym, ◌∙◌, ◌≡◌}
 use Rattle.gen1_machine.specs.Step.{step}
 use Rattle.gen1_layout.specs.Parts.{Parts}
-use Rattle.gen1_layout.specs.Within.{Stands}
+use Rattle.gen1_layout.specs.Shows.{Stands}
 use Rattle.gen1_machine.specs.State.{State}
 use Rattle.uses.proofs.TheTheorem.{by_answer, called_same, goes}
 use Rattle.uses.proofs.the_theorem.call.Goals as goal

@@ -1,6 +1,6 @@
 use Rattle.std.proofs.Common.{ap, length, subst, sym, ◌∙◌}
 use Rattle.std.proofs.lemmas.Bool.{false≢true}
-use Rattle.gen1_layout.specs.LoadingMeaning.{IsBattle}
+use Rattle.gen1_layout.specs.LoadingLaws.{IsBattle}
 use Rattle.uses.proofs.TheTheorem.{loaded_same, stored_battle}
 use Rattle.uses.proofs.the_theorem.load.Goals as goal
 

@@ -1,8 +1,8 @@
 -- The spectator has followed the pieces so far.
 use Rattle.std.proofs.Common.{map, take}
 use Rattle.gen1_machine.specs.View.{first_view}
-use Rattle.gen1_spectator.specs.Watching.{Followed, joined}
-use Rattle.gen1_spectator.proofs.Pieces.{piece_bytes}
+use Rattle.gen1_spectator.specs.Following.{Followed, joined}
+use Rattle.gen1_spectator.proofs.Following.{piece_bytes}
 use Rattle.uses.proofs.the_theorem.watch.Given as goal
 
 abbrev pub invariant-loop-piece : goal.invariant-loop-piece

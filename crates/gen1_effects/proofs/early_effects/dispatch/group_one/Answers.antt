@@ -1,6 +1,5 @@
 use Rattle.std.proofs.Common.{ap, ◌∙◌, ◌≡◌}
-use Rattle.gen1_hits.specs.Alone.{just_begun}
-use Rattle.gen1_hits.specs.Knowing.{begun}
+use Rattle.gen1_hits.specs.Knowing.{just_begun, begun}
 use Rattle.gen1_hits.proofs.Knowledge.{leaves}
 use Rattle.gen1_effects.proofs.early_effects.dispatch.group_one.Goals as goal
 

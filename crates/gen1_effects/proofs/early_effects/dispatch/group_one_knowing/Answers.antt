@@ -1,7 +1,7 @@
 use Rattle.std.proofs.Common.{ap, sym, ◌∙◌}
 use Rattle.gen1_hits.proofs.Knowledge.{does_still, plain_still}
 use Rattle.gen1_effects.specs.EarlyEffects.{way_of}
-use Rattle.gen1_effects.proofs.EarlyEffects.{early-by}
+use Rattle.gen1_effects.proofs.LateEffects.{early-by}
 use Rattle.gen1_effects.proofs.Failing.{drawn_ended}
 use Rattle.gen1_effects.proofs.early_effects.dispatch.group_one_knowing.Goals as goal
 

@@ -1,7 +1,7 @@
 use Rattle.gen1_layout.proofs.Words.{ap, given, goes, ◌∙◌}
 use Rattle.gen1_machine.specs.EarlyEffects.{cure_kind, haze_cures, set_skips}
 use Rattle.gen1_stats.specs.Members.{sleeps_or_freezes}
-use Rattle.gen1_effects.proofs.Partly.{skipped}
+use Rattle.gen1_effects.proofs.Passing.{skipped}
 use Rattle.gen1_effects.proofs.early_effects.haze.cure.Goals as goal
 
 pub returns-clause-shown : goal.returns-clause-shown

@@ -7,7 +7,7 @@ use Rattle.gen1_machine.specs.Conditions.{with_seed}
 use Rattle.gen1_machine.specs.EarlyEffects.{seed_foe}
 use Rattle.gen1_machine.specs.Progress.{conditions, is_of, starts}
 use Rattle.gen1_effects.proofs.Failing.{drawn_ended, drawn_fails, drawn_past}
-use Rattle.gen1_effects.proofs.Setting.{seed-same}
+use Rattle.gen1_effects.proofs.SideEffects.{seed-same}
 use Rattle.gen1_effects.proofs.early_effects.leech_seed.seed_foe.Goals as goal
 
 abbrev unseeded : Side → Progress → Bool

@@ -1,7 +1,7 @@
 use Rattle.std.proofs.Common.{lit<, refl}
 use Rattle.gen1_machine.specs.Conditions.{with_mist}
 use Rattle.gen1_machine.specs.EarlyEffects.{set_mist}
-use Rattle.gen1_effects.proofs.Setting.{mist-same}
+use Rattle.gen1_effects.proofs.SideEffects.{mist-same}
 use Rattle.gen1_effects.proofs.early_effects.mist_and_screens.set_mist.Goals as goal
 
 pub returns-clause-shown : goal.returns-clause-shown

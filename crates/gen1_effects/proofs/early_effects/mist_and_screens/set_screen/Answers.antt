@@ -2,7 +2,7 @@ use Rattle.std.proofs.Common.{lit<, refl, sym, ◌∙◌}
 use Rattle.gen1_machine.specs.Conditions.{with_light_screen, with_reflect}
 use Rattle.gen1_machine.specs.EarlyEffects.{set_light_screen, set_reflect, set_screen}
 use Rattle.gen1_effects.proofs.Failing.{ends_if_not, ends_if_so}
-use Rattle.gen1_effects.proofs.Setting.{light_screen-same, reflect-same}
+use Rattle.gen1_effects.proofs.SideEffects.{light_screen-same, reflect-same}
 use Rattle.gen1_effects.proofs.early_effects.mist_and_screens.set_screen.Goals as goal
 
 pub returns-then-is_light_screen-clause-shown : goal.returns-then-is_light_screen-clause-shown

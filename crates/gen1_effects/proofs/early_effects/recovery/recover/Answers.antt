@@ -2,7 +2,7 @@ use Rattle.std.proofs.Common.{◌/◌}
 use Rattle.gen1_layout.proofs.Words.{Member, ap, ℕ}
 use Rattle.gen1_machine.specs.EarlyEffects.{recover}
 use Rattle.gen1_machine.specs.Progress.{gain_hp, member}
-use Rattle.gen1_effects.proofs.Partly.{seeing_part}
+use Rattle.gen1_effects.proofs.Passing.{seeing_part}
 use Rattle.gen1_effects.proofs.early_effects.recovery.recover.Goals as goal
 
 pub returns-clause-shown : goal.returns-clause-shown

@@ -5,7 +5,7 @@ use Rattle.gen1_machine.specs.declared.event.Event.TheVariants as events
 use Rattle.gen1_machine.specs.EarlyEffects.{rest_up}
 use Rattle.gen1_machine.specs.Progress.{gain_hp, member}
 use Rattle.gen1_machine.specs.State.{with_status}
-use Rattle.gen1_effects.proofs.Partly.{seeing_part}
+use Rattle.gen1_effects.proofs.Passing.{seeing_part}
 use Rattle.gen1_effects.proofs.early_effects.recovery.rest_up.Goals as goal
 
 pub returns-clause-shown : goal.returns-clause-shown

@@ -4,7 +4,7 @@ use Rattle.gen1_stats.specs.declared.status.Status.TheVariants.{Asleep}
 use Rattle.gen1_machine.specs.declared.health.Kind.TheVariants as kinds
 use Rattle.gen1_machine.specs.Progress.{inflict}
 use Rattle.gen1_machine.specs.Ruling.{fall_asleep, is_sleep_count, sleep_for}
-use Rattle.gen1_hits.proofs.Searching.{drawn_until}
+use Rattle.gen1_hits.proofs.Knowledge.{drawn_until}
 use Rattle.gen1_effects.proofs.late_effects.sleep_moves.fall_asleep.Goals as goal
 
 -- 1 gives a count, and each byte is drawn.

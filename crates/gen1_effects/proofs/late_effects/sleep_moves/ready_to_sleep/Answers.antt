@@ -4,7 +4,7 @@ use Rattle.gen1_stats.specs.Members.{is_healthy}
 use Rattle.gen1_machine.specs.Conditions.{without_recharge}
 use Rattle.gen1_machine.specs.LateEffects.{ready_to_sleep}
 use Rattle.gen1_machine.specs.Progress.{fail, fails_if, has_status}
-use Rattle.gen1_status.proofs.Clearing.{recharge-same}
+use Rattle.gen1_status.proofs.Statuses.{recharge-same}
 use Rattle.gen1_hits.proofs.Knowledge.{plain_still}
 use Rattle.gen1_effects.proofs.late_effects.sleep_moves.ready_to_sleep.Goals as goal
 

@@ -4,7 +4,7 @@ use Rattle.gen1_machine.specs.Progress.{is_confused, unless}
 use Rattle.gen1_machine.specs.Sides.{other}
 use Rattle.gen1_machine.specs.SideEffects.{may_confuse}
 use Rattle.gen1_rolls.specs.Draws.{by_then}
-use Rattle.gen1_effects.proofs.Chances.{comes, passes}
+use Rattle.gen1_effects.proofs.Passing.{comes, passes}
 use Rattle.gen1_effects.proofs.side_effects.confusion_chance.may_confuse.Goals as goal
 
 pub returns-then-not-is_drawn_below-clause-shown : goal.returns-then-not-is_drawn_below-clause-shown

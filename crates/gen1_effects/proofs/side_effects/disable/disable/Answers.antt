@@ -3,7 +3,7 @@ use Rattle.gen1_machine.specs.Progress.{fails_if}
 use Rattle.gen1_machine.specs.SideEffects.{disable}
 use Rattle.gen1_hits.specs.Knowing.{knowing}
 use Rattle.gen1_hits.proofs.Knowledge.{plain_still}
-use Rattle.gen1_effects.proofs.Chances.{drawn_past}
+use Rattle.gen1_effects.proofs.Passing.{drawn_past}
 use Rattle.gen1_rolls.specs.Draws.{by_then}
 use Rattle.gen1_effects.proofs.side_effects.disable.disable.Goals as goal
 

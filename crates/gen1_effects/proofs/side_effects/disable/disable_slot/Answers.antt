@@ -5,8 +5,8 @@ use Rattle.gen1_machine.specs.Progress.{fails_if, starts}
 use Rattle.gen1_machine.specs.Sides.{other}
 use Rattle.gen1_machine.specs.SideEffects.{disable_for, disable_slot}
 use Rattle.gen1_layout.proofs.Chain.{drawn_if_so, drawn_stops, still}
-use Rattle.gen1_hits.proofs.Searching.{drawing_like}
-use Rattle.gen1_effects.proofs.Chances.{drawn_past}
+use Rattle.gen1_hits.proofs.Knowledge.{drawing_like}
+use Rattle.gen1_effects.proofs.Passing.{drawn_past}
 use Rattle.gen1_effects.proofs.side_effects.disable.disable_slot.Goals as goal
 
 pub returns-then-not-any_pp-clause-shown : goal.returns-then-not-any_pp-clause-shown

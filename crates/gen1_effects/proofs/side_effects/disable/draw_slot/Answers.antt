@@ -1,13 +1,13 @@
 use Rattle.std.proofs.Common.{◌≡◌}
 use Rattle.gen1_layout.proofs.Words.{Progress, Side, ap, drawn_seeing, subst, sym, ◌∙◌}
 use Rattle.gen1_rolls.specs.declared.look.Look.{Look}
-use Rattle.gen1_rolls.specs.Looks.{sees}
+use Rattle.gen1_rolls.specs.Streams.{sees}
 use Rattle.gen1_machine.specs.Progress.{draw_until, member}
 use Rattle.gen1_machine.specs.Sides.{other}
 use Rattle.gen1_machine.specs.SideEffects.{disable_slot, names_slot}
 use Rattle.gen1_rolls.specs.Draws.{by_then}
 use Rattle.gen1_rolls.proofs.Standing.{found_by, missed_by}
-use Rattle.gen1_hits.proofs.Searching.{drawn_for_none, drawn_until}
+use Rattle.gen1_hits.proofs.Knowledge.{drawn_for_none, drawn_until}
 use Rattle.gen1_effects.proofs.DisabledSlots.{slot_alike}
 use Rattle.gen1_effects.proofs.side_effects.disable.draw_slot.Goals as goal
 

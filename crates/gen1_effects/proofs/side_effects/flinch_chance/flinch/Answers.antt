@@ -1,7 +1,7 @@
 use Rattle.gen1_layout.proofs.Words.{goes, lit<, put_on_conditions, refl}
 use Rattle.gen1_machine.specs.Conditions.{with_flinch, without_recharge}
 use Rattle.gen1_machine.specs.SideEffects.{flinch}
-use Rattle.gen1_status.proofs.Clearing.{recharge-same}
+use Rattle.gen1_status.proofs.Statuses.{recharge-same}
 use Rattle.gen1_effects.proofs.SideEffects.{flinching-same}
 use Rattle.gen1_effects.proofs.side_effects.flinch_chance.flinch.Goals as goal
 

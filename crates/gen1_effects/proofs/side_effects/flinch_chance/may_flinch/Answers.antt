@@ -1,7 +1,7 @@
 use Rattle.gen1_layout.proofs.Words.{still}
 use Rattle.gen1_machine.specs.Sides.{other}
 use Rattle.gen1_machine.specs.SideEffects.{flinch}
-use Rattle.gen1_effects.proofs.Chances.{comes, passes}
+use Rattle.gen1_effects.proofs.Passing.{comes, passes}
 use Rattle.gen1_effects.proofs.side_effects.flinch_chance.may_flinch.Goals as goal
 
 pub returns-then-not-is_drawn_below-clause-shown : goal.returns-then-not-is_drawn_below-clause-shown

@@ -1,7 +1,7 @@
 use Rattle.gen1_layout.proofs.Words.{arith, stay, still}
 use Rattle.gen1_machine.specs.Sides.{other}
 use Rattle.gen1_machine.specs.StageShift.{lower_stage}
-use Rattle.gen1_effects.proofs.Chances.{comes, passes}
+use Rattle.gen1_effects.proofs.Passing.{comes, passes}
 use Rattle.gen1_status.proofs.Shifting.{shifted}
 use Rattle.gen1_effects.proofs.side_effects.stat_drops.may_lower.Goals as goal
 

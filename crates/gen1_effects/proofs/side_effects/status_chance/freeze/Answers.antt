@@ -2,7 +2,7 @@ use Rattle.gen1_layout.proofs.Words.{goes, lit<, put_on_conditions, refl, sym, â
 use Rattle.gen1_machine.specs.Conditions.{without_recharge}
 use Rattle.gen1_machine.specs.Ruling.{freeze_freely}
 use Rattle.gen1_machine.specs.Sides.{other}
-use Rattle.gen1_status.proofs.Clearing.{recharge-same}
+use Rattle.gen1_status.proofs.Statuses.{recharge-same}
 use Rattle.gen1_effects.proofs.SideEffects.{freezes, refuses}
 use Rattle.gen1_effects.proofs.side_effects.status_chance.freeze.Goals as goal
 

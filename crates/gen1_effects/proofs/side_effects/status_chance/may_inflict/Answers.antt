@@ -2,7 +2,7 @@ use Rattle.gen1_layout.proofs.Words.{drawn_if_not, drawn_if_so, drawn_stays, sti
 use Rattle.gen1_machine.specs.Ruling.{ruling_of}
 use Rattle.gen1_machine.specs.SideEffects.{may_inflict}
 use Rattle.gen1_effects.specs.SideEffects.{afflict}
-use Rattle.gen1_effects.proofs.Chances.{comes, passes}
+use Rattle.gen1_effects.proofs.Passing.{comes, passes}
 use Rattle.gen1_effects.proofs.side_effects.status_chance.may_inflict.Goals as goal
 
 pub returns-then-has_status-clause-shown : goal.returns-then-has_status-clause-shown

@@ -4,7 +4,7 @@ use Rattle.gen1_machine.specs.declared.health.Kind.TheVariants as kinds
 use Rattle.gen1_machine.specs.Progress.{inflict}
 use Rattle.gen1_machine.specs.Sides.{other}
 use Rattle.gen1_machine.specs.SideEffects.{may_poison}
-use Rattle.gen1_effects.proofs.Chances.{comes, passes}
+use Rattle.gen1_effects.proofs.Passing.{comes, passes}
 use Rattle.gen1_effects.proofs.side_effects.status_chance.may_poison.Goals as goal
 
 pub returns-then-resists_poison-clause-shown : goal.returns-then-resists_poison-clause-shown

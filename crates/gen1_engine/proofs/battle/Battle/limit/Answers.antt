@@ -1,7 +1,7 @@
 use Rattle.std.proofs.Common.{subst, sym}
 use Rattle.gen1_layout.specs.Parts.{Parts}
-use Rattle.gen1_layout.specs.Within.{Stands, setting_of}
-use Rattle.gen1_offers.proofs.BetweenUpdates.{packs_of}
+use Rattle.gen1_layout.specs.Shows.{Stands, setting_of}
+use Rattle.gen1_offers.proofs.OfferedSet.{packs_of}
 use Rattle.gen1_engine.proofs.battle.Battle.limit.Goals as goal
 
 pub returns : goal.returns

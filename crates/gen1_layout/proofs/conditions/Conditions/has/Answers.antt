@@ -1,5 +1,5 @@
 use Rattle.std.proofs.Common.{◌≡◌, ◌∙◌}
-use Rattle.gen1_layout.proofs.Bits.{bit_read, bits_of, bits_of-is, power_is}
+use Rattle.gen1_layout.proofs.Counts.{bit_read, bits_of, bits_of-is, power_is}
 use Rattle.gen1_layout.proofs.conditions.Conditions.has.Goals as goal
 
 pub returns : goal.returns

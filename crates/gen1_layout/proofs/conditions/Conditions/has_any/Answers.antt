@@ -1,5 +1,5 @@
 use Rattle.std.proofs.Common.{◌≡◌, ◌∙◌}
-use Rattle.gen1_layout.proofs.Bits.{any_read, bits_of, bits_of-is}
+use Rattle.gen1_layout.proofs.Counts.{any_read, bits_of, bits_of-is}
 use Rattle.gen1_layout.proofs.conditions.Conditions.has_any.Goals as goal
 
 pub returns : goal.returns

@@ -1,5 +1,5 @@
 use Rattle.std.proofs.Common.{arith, length, sym, ◌≡◌, ◌≤◌, ◌∙◌}
-use Rattle.gen1_layout.proofs.Bits.{bits_clear, bits_of, bits_of-is, bits_set, power_is}
+use Rattle.gen1_layout.proofs.Counts.{bits_clear, bits_of, bits_of-is, bits_set, power_is}
 use Rattle.gen1_layout.proofs.conditions.Conditions.with.Goals as goal
 
 pub returns-then-on : goal.returns-then-on

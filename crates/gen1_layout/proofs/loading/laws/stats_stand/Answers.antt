@@ -1,4 +1,4 @@
-use Rattle.gen1_layout.proofs.LoadingStatLaws.{stats_law}
+use Rattle.gen1_layout.proofs.LoadingLaws.{stats_law}
 use Rattle.gen1_layout.proofs.loading.laws.stats_stand.Goals as goal
 
 pub returns : goal.returns

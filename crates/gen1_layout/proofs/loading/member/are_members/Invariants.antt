@@ -1,6 +1,5 @@
 use Rattle.std.proofs.Common.{ℕ, ◌-◌, ◌<◌, ◌≤◌}
-use Rattle.gen1_layout.specs.LoadingBytes.{member_bytes}
-use Rattle.gen1_layout.specs.LoadingMember.{PassesPlace}
+use Rattle.gen1_layout.specs.Loading.{member_bytes, PassesPlace}
 use Rattle.gen1_layout.proofs.loading.member.are_members.Given as goal
 
 abbrev pub invariant-places : goal.invariant-places

@@ -1,7 +1,6 @@
 use Rattle.std.proofs.Common.{ap, sym, ◌∙◌}
 use Rattle.gen1_machine.specs.Layout.{bytes_of}
-use Rattle.gen1_layout.specs.Parts.{joined}
-use Rattle.gen1_layout.specs.Joined.{joined-parts}
+use Rattle.gen1_layout.specs.Parts.{joined, joined-parts}
 use Rattle.gen1_layout.proofs.packed.Packed.as_bytes.Goals as goal
 
 pub returns-clause-value : goal.returns-clause-value

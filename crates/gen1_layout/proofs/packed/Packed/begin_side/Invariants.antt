@@ -1,5 +1,5 @@
 use Rattle.std.proofs.Common.{◌-◌, ◌≡◌}
-use Rattle.gen1_layout.proofs.Begun.{begun_side}
+use Rattle.gen1_layout.proofs.WaysBack.{begun_side}
 use Rattle.gen1_layout.proofs.packed.Packed.begin_side.Given as goal
 
 abbrev pub invariant-loop-place : goal.invariant-loop-place

@@ -40,8 +40,8 @@ use Rattle.gen1_machine.proofs.side.Side.TheLaws as side_laws
 use Rattle.std.specs.List.{refill}
 use Rattle.gen1_layout.specs.Parts.{Parts, bytes_of_side, bytes_of_sides, in_order, refilled, with_sides}
 use Rattle.gen1_layout.proofs.Memory.{Row}
-use Rattle.gen1_layout.proofs.Pairs.{both_behind, both_then, lent_anew}
 use Rattle.gen1_layout.proofs.Views.{both-leave, both-value}
+use Rattle.gen1_layout.proofs.Pairs.{both_behind, both_then, lent_anew}
 use Rattle.gen1_layout.specs.contracts.packed.Packed.both_mut as f
 use Rattle.gen1_layout.specs.contracts.packed.Packed.sides_mut as g
 use Rattle.gen1_layout.specs.contracts.packed.in_two as h

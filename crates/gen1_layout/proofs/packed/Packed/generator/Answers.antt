@@ -1,7 +1,7 @@
 use Rattle.gen1_layout.proofs.Words.{Bool, None, Some, ap, arith, nat_lt, nat_tests, packed_of, true, ℕ, ◌∙◌}
 use Rattle.std.proofs.Common.{cond, ◌%◌, ◌<◌, ◌≡◌}
 use Rattle.std.specs.Prelude.{if◌then◌else◌}
-use Rattle.gen1_layout.proofs.Numbers.{numbers_are}
+use Rattle.gen1_layout.proofs.WaysBack.{numbers_are}
 use Rattle.gen1_layout.proofs.packed.Packed.generator.Goals as goal
 
 pub returns-clause-packs : goal.returns-clause-packs

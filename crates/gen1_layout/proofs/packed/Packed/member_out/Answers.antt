@@ -1,7 +1,7 @@
 use Rattle.std.proofs.Common.{◌+◌, ◌-◌, ◌≡◌}
 use Rattle.gen1_layout.proofs.Words.{Parts, active_in, ap, arith, out_holds, refl, sym, ◌∙◌}
 use Rattle.gen1_layout.specs.Parts.{member_at, member_of}
-use Rattle.gen1_layout.proofs.Blocks.{party_in}
+use Rattle.gen1_layout.proofs.Steps.{party_in}
 use Rattle.gen1_layout.proofs.Out.{out_starts}
 use Rattle.gen1_layout.proofs.Views.{member-part}
 use Rattle.gen1_layout.proofs.packed.Packed.member_out.Goals as goal

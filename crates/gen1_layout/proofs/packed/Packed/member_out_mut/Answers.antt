@@ -1,6 +1,6 @@
 use Rattle.std.proofs.Common.{arith, refl, ◌+◌, ◌-◌, ◌≡◌, ◌∙◌}
 use Rattle.gen1_layout.proofs.Words.{active_in, out_holds}
-use Rattle.gen1_layout.proofs.Blocks.{party_in}
+use Rattle.gen1_layout.proofs.Steps.{party_in}
 use Rattle.gen1_layout.proofs.Out.{out_starts}
 use Rattle.gen1_layout.proofs.Views.{member-value}
 use Rattle.gen1_layout.proofs.packed.Packed.member_out_mut.Goals as goal

@@ -33,10 +33,9 @@ use denote.Steps.{heard, nothing}
 use denote.Triple.Walked.{Goes-dropped, Goes-spent_ref, Stays, ends_at, says, stay_dropped, walk_of}
 use borrow.Table.Elements.{at, at_byte, cut_app, join_app, length-take-le}
 use Rattle.std.proofs.raw_atomic.Walks.{proved}
-use Rattle.gen1_layout.specs.Parts.{Parts, joined, part, parts_of, rewritten}
+use Rattle.gen1_layout.specs.Parts.{Parts, joined, part, parts_of, rewritten, joined-parts}
 use Rattle.gen1_layout.proofs.Memory.{Inner, Left, Row, bytes_in, bytes_out, start}
-use Rattle.gen1_layout.proofs.Rewriting.{length-rewritten, refill-same}
-use Rattle.gen1_layout.specs.Joined.{joined-parts}
+use Rattle.gen1_layout.proofs.Views.{length-rewritten, refill-same}
 use Rattle.gen1_layout.specs.contracts.packed.Packed.part_mut as f
 use Rattle.gen1_layout.proofs.packed.Packed.part_mut.Statement.{statement}
 use Rattle.gen1_layout.proofs.packed.Packed.part_mut.Code as code

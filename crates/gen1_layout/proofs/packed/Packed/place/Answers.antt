@@ -1,6 +1,6 @@
 use Rattle.std.proofs.Common.{◌≡◌}
 use Rattle.gen1_layout.proofs.Words.{List, active_in, ap, arith, slice_index, ℕ}
-use Rattle.gen1_layout.proofs.Blocks.{party_in}
+use Rattle.gen1_layout.proofs.Steps.{party_in}
 use Rattle.gen1_layout.proofs.packed.Packed.place.Goals as goal
 
 pub returns-clause-stands : goal.returns-clause-stands

@@ -2,7 +2,7 @@ use Rattle.std.proofs.Common.{length-set, set, ◌≡◌}
 use Rattle.gen1_layout.proofs.Words.{active_holds, active_in, ap, arith, conditions_in, conditions_written, member_in, number_small, refl, sym, top_byte, ◌∙◌}
 use Rattle.gen1_machine.specs.Layout.{condition_bits, conditions_number, number_of_bits}
 use Rattle.gen1_layout.proofs.Counts.{count_block, marked}
-use Rattle.gen1_layout.proofs.Rewriting.{refill-same}
+use Rattle.gen1_layout.proofs.Views.{refill-same}
 use Rattle.gen1_layout.proofs.packed.Packed.put_count.Goals as goal
 
 pub returns : goal.returns

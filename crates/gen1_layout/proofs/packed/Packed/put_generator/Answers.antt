@@ -1,8 +1,8 @@
 use Rattle.gen1_layout.proofs.Words.{List, Parts, ap, header_packs, packed_of, refl, still_within, ℕ, ◌∙◌}
-use Rattle.gen1_rolls.specs.Link.{Ring}
+use Rattle.gen1_rolls.specs.Steady.{Ring}
 use Rattle.gen1_machine.specs.Layout.{header_block}
-use Rattle.gen1_layout.specs.Within.{state_in}
-use Rattle.gen1_layout.proofs.Numbers.{numbers_are}
+use Rattle.gen1_layout.specs.Shows.{state_in}
+use Rattle.gen1_layout.proofs.WaysBack.{numbers_are}
 use Rattle.gen1_layout.proofs.packed.Packed.put_generator.Goals as goal
 
 pub returns-clause-packs : goal.returns-clause-packs

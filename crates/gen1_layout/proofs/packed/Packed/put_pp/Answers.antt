@@ -1,7 +1,7 @@
 use Rattle.gen1_layout.proofs.Words.{member_in, member_ok, refl, ◌∙◌}
 use Rattle.std.proofs.Common.{length-set, set, ◌+◌, ◌-◌}
-use Rattle.gen1_layout.proofs.Rewriting.{refill-same}
-use Rattle.gen1_layout.proofs.Slots.{pp_block, pp_ok, with_pp}
+use Rattle.gen1_layout.proofs.Views.{refill-same}
+use Rattle.gen1_layout.proofs.Steps.{pp_block, pp_ok, with_pp}
 use Rattle.gen1_machine.specs.Layout.{member_block}
 use Rattle.gen1_layout.proofs.Out.{out_written}
 use Rattle.gen1_layout.proofs.packed.Packed.put_pp.Goals as goal

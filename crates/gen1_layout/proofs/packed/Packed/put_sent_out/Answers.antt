@@ -1,7 +1,7 @@
 use Rattle.std.proofs.Common.{lit≤, refl, ◌∙◌}
 use Rattle.gen1_machine.specs.State.{member_at, party}
 use Rattle.gen1_layout.proofs.Steps.{first_written, sent_written}
-use Rattle.gen1_layout.specs.SentOut.{sent_as}
+use Rattle.gen1_layout.specs.Shows.{sent_as}
 use Rattle.gen1_layout.proofs.packed.Packed.put_sent_out.Goals as goal
 
 pub returns : goal.returns

@@ -1,6 +1,6 @@
 use Rattle.std.proofs.Common.{ap, refl, ◌∙◌}
 use Rattle.gen1_layout.specs.Parts.{parts_of}
-use Rattle.gen1_layout.proofs.Loaded.{stands_for_some}
+use Rattle.gen1_layout.proofs.WaysBack.{stands_for_some}
 use Rattle.gen1_layout.proofs.packed.Packed.read.Goals as goal
 
 pub returns-clause-tests : goal.returns-clause-tests

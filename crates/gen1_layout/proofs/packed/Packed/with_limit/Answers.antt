@@ -1,6 +1,6 @@
 use Rattle.std.proofs.Common.{arith, rules}
 use Rattle.gen1_machine.specs.State.{Terms}
-use Rattle.gen1_machine.proofs.FirstStates.{first_states_are_valid}
+use Rattle.gen1_machine.proofs.ValidStates.{first_states_are_valid}
 use Rattle.gen1_layout.proofs.packed.Packed.with_limit.Goals as goal
 
 pub returns : goal.returns

@@ -4,8 +4,8 @@ use Rattle.gen1_machine.specs.ManyHits.{note_effectiveness}
 use Rattle.gen1_machine.specs.Moves.{move_at}
 use Rattle.gen1_machine.specs.Progress.{given}
 use Rattle.gen1_machine.specs.Sides.{other}
-use Rattle.gen1_status.proofs.Comparing.{below, not_below}
-use Rattle.gen1_multiturn.proofs.Rows.{counted, none_counted}
+use Rattle.gen1_status.proofs.Statuses.{below, not_below}
+use Rattle.gen1_multiturn.proofs.MoveHits.{counted, none_counted}
 use Rattle.gen1_multiturn.proofs.move_hits.first_hit.note_effectiveness.Goals as goal
 
 pub returns-then-is_neutral-clause-shown : goal.returns-then-is_neutral-clause-shown

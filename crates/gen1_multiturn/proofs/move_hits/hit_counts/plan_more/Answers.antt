@@ -1,8 +1,8 @@
 use Rattle.gen1_layout.proofs.Words.{Action, Some, ap, drawn_acted, sym, ◌∙◌}
 use Rattle.gen1_machine.specs.HitEffects.{set_planned}
 use Rattle.gen1_machine.specs.Moves.{move_at}
-use Rattle.gen1_multiturn.specs.ManyHits.{is_multi_hit}
-use Rattle.gen1_multiturn.proofs.ManyHits.{planned-many, planned-two}
+use Rattle.gen1_multiturn.specs.MoveHits.{is_multi_hit}
+use Rattle.gen1_multiturn.proofs.MoveHits.{planned-many, planned-two}
 use Rattle.gen1_multiturn.proofs.move_hits.hit_counts.plan_more.Goals as goal
 
 pub returns-then-is_multi_hit-clause-shown : goal.returns-then-is_multi_hit-clause-shown

@@ -2,7 +2,7 @@ use Rattle.gen1_layout.proofs.Words.{goes, lit<, put_on_conditions, put_on_membe
 use Rattle.gen1_machine.specs.Conditions.{without_seed}
 use Rattle.gen1_machine.specs.HitEffects.{explode}
 use Rattle.gen1_machine.specs.State.{fallen}
-use Rattle.gen1_multiturn.proofs.ManyHits.{seedless-same}
+use Rattle.gen1_multiturn.proofs.MoveHits.{seedless-same}
 use Rattle.gen1_multiturn.proofs.move_hits.hit_effects.explode.Goals as goal
 
 pub returns : goal.returns

@@ -2,8 +2,8 @@ use Rattle.std.proofs.Common.{◌≡◌}
 use Rattle.gen1_layout.proofs.Words.{ap, quietly, stays, sym, ◌∙◌}
 use Rattle.gen1_machine.specs.Moves.{move_at}
 use Rattle.gen1_multiturn.specs.declared.move_hits.hit_effects.Consequence.TheVariants as consequences
-use Rattle.gen1_multiturn.specs.ManyHits.{consequence_of}
-use Rattle.gen1_multiturn.proofs.ManyHits.{hit_effect-by}
+use Rattle.gen1_multiturn.specs.MoveHits.{consequence_of}
+use Rattle.gen1_multiturn.proofs.MoveHits.{hit_effect-by}
 use Rattle.gen1_multiturn.proofs.move_hits.hit_effects.hit_effect.Goals as goal
 
 pub returns-in-Recoil-clause-shown : goal.returns-in-Recoil-clause-shown

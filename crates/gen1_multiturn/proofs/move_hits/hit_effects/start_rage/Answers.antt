@@ -4,7 +4,7 @@ use Rattle.gen1_machine.specs.declared.event.Volatile.TheVariants as volatiles
 use Rattle.gen1_machine.specs.Conditions.{with_rage}
 use Rattle.gen1_machine.specs.HitEffects.{start_rage}
 use Rattle.gen1_machine.specs.Progress.{starts}
-use Rattle.gen1_multiturn.proofs.ManyHits.{raging-same}
+use Rattle.gen1_multiturn.proofs.MoveHits.{raging-same}
 use Rattle.gen1_multiturn.proofs.move_hits.hit_effects.start_rage.Goals as goal
 
 pub returns-then-is_on-clause-shown : goal.returns-then-is_on-clause-shown

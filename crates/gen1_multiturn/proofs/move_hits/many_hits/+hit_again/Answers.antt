@@ -3,7 +3,7 @@ use Rattle.gen1_layout.proofs.Words.{Action, ap, arith, drawn_goes, drawn_if_not
 use Rattle.gen1_machine.specs.Sides.{other}
 use Rattle.gen1_machine.specs.State.{has_fallen_in}
 use Rattle.gen1_machine.specs.Moves.{move_at}
-use Rattle.gen1_multiturn.proofs.ManyHits.{again-more, again-none}
+use Rattle.gen1_multiturn.proofs.MoveHits.{again-more, again-none}
 use Rattle.gen1_rolls.specs.Draws.{by_then}
 use Rattle.gen1_multiturn.proofs.move_hits.many_hits.+hit_again.Goals as goal
 

@@ -5,7 +5,7 @@ use Rattle.gen1_machine.specs.Landing.{land}
 use Rattle.gen1_machine.specs.ManyHits.{count_hit, hit_once}
 use Rattle.gen1_machine.specs.Moves.{move_at}
 use Rattle.gen1_hits.proofs.Knowledge.{does_still, plain_still}
-use Rattle.gen1_multiturn.proofs.ManyHits.{plain-hit}
+use Rattle.gen1_multiturn.proofs.MoveHits.{plain-hit}
 use Rattle.gen1_multiturn.proofs.move_hits.many_hits.hit_of_many.Goals as goal
 
 pub returns-clause-shown : goal.returns-clause-shown

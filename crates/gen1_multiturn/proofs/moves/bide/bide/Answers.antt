@@ -2,8 +2,7 @@ use Rattle.gen1_layout.proofs.Words.{Option, ap, drawn_if_not, drawn_if_so, is_s
 use Rattle.gen1_tables.specs.declared.effect.Effect.TheVariants.{Bide}
 use Rattle.gen1_machine.specs.Conditions.{Storing}
 use Rattle.gen1_hits.proofs.Knowledge.{does_still, leaves}
-use Rattle.gen1_hits.specs.Alone.{just_begun}
-use Rattle.gen1_hits.specs.Knowing.{knowing}
+use Rattle.gen1_hits.specs.Knowing.{just_begun, knowing}
 use Rattle.gen1_multiturn.proofs.Underways.{alone-biding, not-stored, stored-is}
 use Rattle.gen1_multiturn.proofs.moves.bide.bide.Goals as goal
 

@@ -3,7 +3,7 @@ use Rattle.gen1_machine.specs.Conditions.{energy_with, Storing}
 use Rattle.gen1_machine.specs.GoingOn.{bide_goes_on, bide_on}
 use Rattle.gen1_machine.specs.Layout.{energy_of}
 use Rattle.gen1_machine.specs.Progress.{last_damage}
-use Rattle.gen1_status.proofs.Comparing.{at_most, not_at_most}
+use Rattle.gen1_status.proofs.Statuses.{at_most, not_at_most}
 use Rattle.gen1_multiturn.proofs.Underways.{not-stored, stored-is}
 use Rattle.gen1_multiturn.proofs.moves.bide.bide_knowing.Goals as goal
 

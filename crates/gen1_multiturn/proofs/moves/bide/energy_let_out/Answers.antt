@@ -3,8 +3,8 @@ use Rattle.gen1_machine.specs.Conditions.{energy_with, Storing}
 use Rattle.gen1_machine.specs.GoingOn.{let_out}
 use Rattle.gen1_machine.specs.Layout.{energy_of}
 use Rattle.gen1_machine.specs.State.{underway_in}
-use Rattle.gen1_status.proofs.Comparing.{at_most, not_at_most}
-use Rattle.gen1_multiturn.specs.Bide.{energy_let_out}
+use Rattle.gen1_status.proofs.Statuses.{at_most, not_at_most}
+use Rattle.gen1_multiturn.specs.GoingOn.{energy_let_out}
 use Rattle.gen1_multiturn.proofs.Underways.{not-stored, stored-is}
 use Rattle.gen1_multiturn.proofs.moves.bide.energy_let_out.Goals as goal
 

@@ -4,7 +4,7 @@ use Rattle.gen1_machine.specs.declared.event.Volatile.TheVariants as volatiles
 use Rattle.gen1_machine.specs.Conditions.{with_bide_storing, Storing}
 use Rattle.gen1_machine.specs.GoingOn.{store_energy}
 use Rattle.gen1_machine.specs.Progress.{lasts}
-use Rattle.gen1_layout.specs.Storable.{IsStorableBide}
+use Rattle.gen1_layout.specs.Shows.{IsStorableBide}
 use Rattle.gen1_multiturn.proofs.Underways.{beside-bide, more_energy}
 use Rattle.gen1_multiturn.proofs.moves.bide.store_energy.Goals as goal
 

@@ -5,7 +5,7 @@ use Rattle.gen1_machine.specs.Charging.{begin_charge, make_current}
 use Rattle.gen1_machine.specs.Conditions.{with_charging, with_invulnerability}
 use Rattle.gen1_tables.specs.Effects.{hides}
 use Rattle.gen1_machine.specs.Progress.{only}
-use Rattle.gen1_multiturn.proofs.Charging.{charged-same}
+use Rattle.gen1_multiturn.proofs.Underways.{charged-same}
 use Rattle.gen1_multiturn.proofs.moves.charging.begin_charge.Goals as goal
 
 pub returns-clause-shown : goal.returns-clause-shown

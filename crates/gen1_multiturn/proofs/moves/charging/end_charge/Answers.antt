@@ -1,7 +1,7 @@
 use Rattle.gen1_layout.proofs.Words.{goes, lit<, put_on_conditions, refl}
 use Rattle.gen1_machine.specs.Charging.{end_charge}
 use Rattle.gen1_machine.specs.Conditions.{without_charging, without_invulnerability}
-use Rattle.gen1_status.proofs.Clearing.{charging-same, invulnerability-same}
+use Rattle.gen1_status.proofs.Statuses.{charging-same, invulnerability-same}
 use Rattle.gen1_multiturn.proofs.moves.charging.end_charge.Goals as goal
 
 pub returns : goal.returns

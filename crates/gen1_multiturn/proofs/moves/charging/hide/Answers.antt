@@ -1,6 +1,6 @@
 use Rattle.gen1_layout.proofs.Words.{if_not, if_so, lit<, put_on_conditions, refl, stays, sym, ◌∙◌}
 use Rattle.gen1_machine.specs.Conditions.{with_invulnerability}
-use Rattle.gen1_multiturn.proofs.Charging.{hidden-same}
+use Rattle.gen1_multiturn.proofs.Underways.{hidden-same}
 use Rattle.gen1_multiturn.proofs.moves.charging.hide.Goals as goal
 
 pub returns-then-hides : goal.returns-then-hides

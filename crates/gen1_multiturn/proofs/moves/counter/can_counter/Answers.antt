@@ -2,7 +2,7 @@ use Rattle.gen1_layout.proofs.Words.{active_in, active_ok, ap, length, member_in
 use Rattle.gen1_machine.specs.declared.picks.UsedMove.{UsedMove}
 use Rattle.gen1_machine.specs.Picks.{number_in}
 use Rattle.gen1_machine.specs.Valid.{IsUsedMove}
-use Rattle.gen1_multiturn.proofs.Countered.{number-small}
+use Rattle.gen1_multiturn.proofs.MoveHits.{number-small}
 use Rattle.gen1_multiturn.proofs.moves.counter.can_counter.Goals as goal
 
 pub returns : goal.returns

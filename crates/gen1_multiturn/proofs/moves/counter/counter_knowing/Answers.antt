@@ -3,7 +3,7 @@ use Rattle.gen1_machine.specs.Counter.{counter, counter_by}
 use Rattle.gen1_machine.specs.Moves.{move_at}
 use Rattle.gen1_machine.specs.Progress.{last_damage, set_missed}
 use Rattle.gen1_hits.specs.Knowing.{knowing}
-use Rattle.gen1_multiturn.proofs.Countered.{dealt-if, missed-if}
+use Rattle.gen1_multiturn.proofs.MoveHits.{dealt-if, missed-if}
 use Rattle.gen1_rolls.specs.Draws.{by_then}
 use Rattle.gen1_multiturn.proofs.moves.counter.counter_knowing.Goals as goal
 

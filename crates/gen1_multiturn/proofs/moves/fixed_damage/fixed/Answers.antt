@@ -2,7 +2,7 @@ use Rattle.gen1_layout.proofs.Words.{ap, sym, ℕ, ◌∙◌}
 use Rattle.std.proofs.Common.{◌≢◌}
 use Rattle.gen1_machine.specs.FixedDamage.{psywave}
 use Rattle.gen1_machine.specs.Progress.{set_last_damage}
-use Rattle.gen1_multiturn.proofs.FixedDamage.{bites, booms, deals_level, rages, waves}
+use Rattle.gen1_multiturn.proofs.MoveHits.{bites, booms, deals_level, rages, waves}
 use Rattle.gen1_multiturn.proofs.moves.fixed_damage.fixed.Goals as goal
 
 pub returns-then-number-eq-SONIC_BOOM-clause-deals : goal.returns-then-number-eq-SONIC_BOOM-clause-deals

@@ -3,8 +3,8 @@ use Rattle.gen1_layout.proofs.Words.{ap, arith, false, lit<, nat_le, nat_tests, 
 use Rattle.gen1_rolls.proofs.Standing.{exactly}
 use Rattle.gen1_machine.specs.FixedDamage.{is_psywave}
 use Rattle.gen1_machine.specs.Progress.{set_last_damage}
-use Rattle.gen1_hits.proofs.Searching.{found_by_drawing}
-use Rattle.gen1_multiturn.proofs.FixedDamage.{above_level_one, at_level_one}
+use Rattle.gen1_hits.proofs.Knowledge.{found_by_drawing}
+use Rattle.gen1_multiturn.proofs.MoveHits.{above_level_one, at_level_one}
 use Rattle.gen1_multiturn.proofs.moves.fixed_damage.psywave.Goals as goal
 
 pub returns-then-level-le1-clause-deals : goal.returns-then-level-le1-clause-deals

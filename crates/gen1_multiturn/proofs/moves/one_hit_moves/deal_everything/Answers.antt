@@ -2,7 +2,7 @@ use Rattle.std.proofs.Common.{◌≡◌}
 use Rattle.gen1_layout.proofs.Words.{false, lit<, put_damage, refl, still, true}
 use Rattle.gen1_machine.specs.Damage.{is_factor}
 use Rattle.gen1_machine.specs.FixedDamage.{deal_everything}
-use Rattle.gen1_hits.proofs.Searching.{drawn_until}
+use Rattle.gen1_hits.proofs.Knowledge.{drawn_until}
 use Rattle.gen1_multiturn.proofs.moves.one_hit_moves.deal_everything.Goals as goal
 
 -- 255 is a factor's byte, and each byte is drawn.

@@ -4,7 +4,7 @@ use Rattle.gen1_machine.specs.Conditions.{with_thrash}
 use Rattle.gen1_machine.specs.GoingOn.{thrash_for}
 use Rattle.gen1_machine.specs.Moves.{accuracy_byte}
 use Rattle.gen1_machine.specs.State.{with_kept_accuracy}
-use Rattle.gen1_hits.proofs.Searching.{drawing_like}
+use Rattle.gen1_hits.proofs.Knowledge.{drawing_like}
 use Rattle.gen1_multiturn.proofs.moves.thrash.begin_thrashing.Goals as goal
 
 pub returns-clause-shown : goal.returns-clause-shown

@@ -6,7 +6,7 @@ use Rattle.gen1_machine.specs.GoingOn.{thrash_about}
 use Rattle.gen1_machine.proofs.Sound.{planned-sound}
 use Rattle.gen1_machine.proofs.SoundWalk.{see_if_going_on-sound}
 use Rattle.gen1_hits.proofs.Knowledge.{does_still, leaves}
-use Rattle.gen1_hits.specs.Alone.{just_begun}
+use Rattle.gen1_hits.specs.Knowing.{just_begun}
 use Rattle.gen1_multiturn.proofs.moves.thrash.thrash.Goals as goal
 
 pub returns-clause-left : goal.returns-clause-left

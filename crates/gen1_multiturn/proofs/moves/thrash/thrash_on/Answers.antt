@@ -2,7 +2,7 @@ use Rattle.gen1_layout.proofs.Words.{Option, Some, active_ok, ap, arith, conditi
 use Rattle.gen1_machine.specs.Conditions.{with_thrash_one_less, without_thrash}
 use Rattle.gen1_machine.specs.GoingOn.{thrash_less}
 use Rattle.gen1_machine.specs.Valid.{IsCount}
-use Rattle.gen1_status.proofs.Comparing.{at_most, not_at_most}
+use Rattle.gen1_status.proofs.Statuses.{at_most, not_at_most}
 use Rattle.gen1_multiturn.proofs.Underways.{beside-thrash, less_thrash}
 use Rattle.gen1_multiturn.proofs.moves.thrash.thrash_on.Goals as goal
 

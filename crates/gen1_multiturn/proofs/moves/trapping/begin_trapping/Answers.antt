@@ -2,7 +2,7 @@ use Rattle.std.proofs.Common.{◌+◌}
 use Rattle.gen1_layout.proofs.Words.{ap, arith, conditions_in, drawn_goes, lit<, on_conditions, on_field, put_on_conditions, refl, still, ◌∙◌}
 use Rattle.gen1_machine.specs.Conditions.{with_trapping, without_recharge, Underway}
 use Rattle.gen1_machine.specs.GoingOn.{trap_for}
-use Rattle.gen1_status.proofs.Clearing.{recharge-same}
+use Rattle.gen1_status.proofs.Statuses.{recharge-same}
 use Rattle.gen1_multiturn.proofs.Underways.{foe-apart}
 use Rattle.gen1_multiturn.proofs.moves.trapping.begin_trapping.Goals as goal
 

@@ -1,7 +1,7 @@
 use Rattle.gen1_layout.proofs.Words.{Active, ActiveConditions, Field, Option, Some, Within, active_in, active_ok, ap, arith, changed_conditions, conditions_in, put_on_conditions, subst, sym, ℕ, ◌∙◌}
 use Rattle.gen1_machine.specs.Conditions.{with_trapping_one_less}
 use Rattle.gen1_machine.specs.Valid.{IsCount}
-use Rattle.gen1_status.proofs.Unchanged.{changed_active-same}
+use Rattle.gen1_status.proofs.Statuses.{changed_active-same}
 use Rattle.gen1_multiturn.proofs.Underways.{beside-trapping, less_trapping, none_trapping}
 use Rattle.gen1_multiturn.proofs.moves.trapping.trap_one_turn_less.Goals as goal
 

@@ -5,7 +5,7 @@ use Rattle.gen1_machine.specs.State.{member_at, party}
 use Rattle.gen1_stats.specs.Members.{is_living}
 use Rattle.gen1_offers.specs.OfferedMask.{passing}
 use Rattle.gen1_offers.proofs.Benches.{bits-below, length-passing, shifted}
-use Rattle.gen1_offers.proofs.Digits.{digit-added, passing-set}
+use Rattle.gen1_offers.proofs.MaskDigits.{digit-added, passing-set}
 use Rattle.gen1_offers.proofs.bench.Bench.digits_follow.Goals as goal
 
 pub returns-clause-digits : goal.returns-clause-digits

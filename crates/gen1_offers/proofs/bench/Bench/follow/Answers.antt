@@ -3,10 +3,9 @@ use Rattle.gen1_machine.specs.declared.choice.Choice.{Choice}
 use Rattle.gen1_machine.specs.declared.side.Side.{Side}
 use Rattle.gen1_machine.specs.Layout.{number_of_bits}
 use Rattle.gen1_machine.specs.State.{active_in, party}
-use Rattle.gen1_layout.specs.Within.{Within, setting_of}
+use Rattle.gen1_layout.specs.Shows.{Within, setting_of}
 use Rattle.gen1_layout.proofs.Storing.{within_of}
-use Rattle.gen1_offers.specs.Bench.{KeepsOut}
-use Rattle.gen1_offers.specs.OfferedMask.{living_of}
+use Rattle.gen1_offers.specs.OfferedMask.{KeepsOut, living_of}
 use Rattle.gen1_offers.proofs.Benches.{comes-same, keeps-place, nobody-out, out_is, stays-same}
 use Rattle.gen1_offers.proofs.bench.Bench.follow.Goals as goal
 

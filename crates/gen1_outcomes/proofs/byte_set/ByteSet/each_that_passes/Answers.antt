@@ -1,5 +1,5 @@
 use Rattle.std.proofs.Common.{arith}
-use Rattle.gen1_rolls.specs.Looks.{passes}
+use Rattle.gen1_rolls.specs.Streams.{passes}
 use Rattle.gen1_outcomes.proofs.Sets.{gets_more}
 use Rattle.gen1_outcomes.proofs.byte_set.ByteSet.each_that_passes.Goals as goal
 

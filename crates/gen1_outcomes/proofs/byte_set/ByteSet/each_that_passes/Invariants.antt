@@ -1,4 +1,4 @@
-use Rattle.gen1_rolls.specs.Looks.{passes}
+use Rattle.gen1_rolls.specs.Streams.{passes}
 use Rattle.gen1_outcomes.proofs.Sets.{Gets}
 use Rattle.gen1_outcomes.proofs.byte_set.ByteSet.each_that_passes.Given as goal
 

@@ -2,8 +2,7 @@ use Rattle.std.proofs.Common.{cond, subst, sym, ◌<◌, ◌≡◌, ◌∙◌, �
 use Rattle.gen1_rolls.specs.declared.look.Look.TheVariants.{Below}
 use Rattle.gen1_rolls.specs.declared.look.Look.{Look}
 use Rattle.gen1_outcomes.specs.declared.byte_set.ByteSet.{ByteSet}
-use Rattle.gen1_outcomes.specs.Bytes.{has, size}
-use Rattle.gen1_outcomes.specs.Classes.{alike_in}
+use Rattle.gen1_outcomes.specs.Bytes.{has, size, alike_in}
 use Rattle.gen1_outcomes.proofs.Sets.{size_all, weighs}
 use Rattle.gen1_outcomes.proofs.nodes.Node.new.Goals as goal
 

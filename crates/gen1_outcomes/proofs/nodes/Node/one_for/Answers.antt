@@ -1,6 +1,6 @@
 use Rattle.std.proofs.Common.{◌+◌, ◌*◌, ◌%◌, ◌/◌, ◌≡◌, ap, arith, sym, ◌∙◌}
-use Rattle.gen1_outcomes.specs.Bytes.{has, size}
 use Rattle.gen1_outcomes.specs.Nodes.{middle_of}
+use Rattle.gen1_outcomes.specs.Bytes.{has, size}
 use Rattle.gen1_outcomes.proofs.Sets.{same_size}
 use Rattle.gen1_outcomes.proofs.nodes.Node.one_for.Goals as goal
 

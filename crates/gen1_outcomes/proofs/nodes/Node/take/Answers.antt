@@ -1,6 +1,5 @@
 use Rattle.std.proofs.Common.{arith, cond, ℕ, refl, ap, ◌∙◌, ◌-◌, ◌<◌, ◌≡◌}
-use Rattle.gen1_outcomes.specs.Bytes.{has}
-use Rattle.gen1_outcomes.specs.Classes.{alike_in}
+use Rattle.gen1_outcomes.specs.Bytes.{has, alike_in}
 use Rattle.gen1_outcomes.proofs.Sets.{counted, taken_rest, weighs}
 use Rattle.gen1_outcomes.proofs.nodes.Node.take.Goals as goal
 

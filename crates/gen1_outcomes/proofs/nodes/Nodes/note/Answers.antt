@@ -3,9 +3,8 @@ use Rattle.std.proofs.lemmas.List.{length-set}
 use Rattle.gen1_outcomes.specs.declared.nodes.Asked.TheVariants.{Unknown}
 use Rattle.gen1_outcomes.specs.declared.nodes.Chance.{Chance}
 use Rattle.gen1_outcomes.specs.declared.nodes.Node.{Node}
-use Rattle.gen1_outcomes.specs.Bytes.{has, size}
-use Rattle.gen1_outcomes.specs.Classes.{alike_in}
 use Rattle.gen1_outcomes.specs.Nodes.{IsChance, IsTooLarge}
+use Rattle.gen1_outcomes.specs.Bytes.{has, size, alike_in}
 use Rattle.gen1_outcomes.proofs.Walking.{covers}
 use Rattle.gen1_outcomes.proofs.nodes.Nodes.note.Goals as goal
 use Rattle.gen1_outcomes.proofs.nodes.Nodes.note.Goals.{in_default-via-in-Some+else-self-lt-DEPTH, in_default-via-in_default}

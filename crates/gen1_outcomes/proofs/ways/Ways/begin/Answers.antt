@@ -7,7 +7,7 @@ use Rattle.gen1_machine.specs.Picks.{pick_in}
 use Rattle.gen1_machine.specs.Ruling.{ruling_of}
 use Rattle.gen1_machine.specs.Turn.{turn}
 use Rattle.gen1_layout.specs.Parts.{parts_of}
-use Rattle.gen1_layout.specs.Within.{Stands, setting_of}
+use Rattle.gen1_layout.specs.Shows.{Stands, setting_of}
 use Rattle.gen1_switching.specs.Updates.{Plays, drawing_on}
 use Rattle.gen1_outcomes.specs.declared.log.Entry.{Entry}
 use Rattle.gen1_outcomes.specs.declared.nodes.Nodes.{Nodes}

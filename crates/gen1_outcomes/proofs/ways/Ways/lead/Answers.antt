@@ -1,7 +1,7 @@
 use Rattle.std.proofs.Common.{List, ap, inl, subst, sym, ◌∙◌, ◌≡◌, rules}
 use Rattle.std.specs.Borrow.{GName}
 use Rattle.gen1_layout.specs.Parts.{Parts}
-use Rattle.gen1_layout.specs.Within.{Within, setting_of}
+use Rattle.gen1_layout.specs.Shows.{Within, setting_of}
 use Rattle.gen1_outcomes.specs.declared.log.Entry.{Entry}
 use Rattle.gen1_outcomes.specs.declared.nodes.Nodes.{Nodes}
 use Rattle.gen1_outcomes.specs.Logs.{place_at}

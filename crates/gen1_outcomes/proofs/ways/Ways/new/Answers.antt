@@ -1,6 +1,6 @@
 use Rattle.std.proofs.Common.{subst, sym}
 use Rattle.gen1_layout.specs.Parts.{Parts}
-use Rattle.gen1_layout.specs.Within.{Stands}
+use Rattle.gen1_layout.specs.Shows.{Stands}
 use Rattle.gen1_outcomes.proofs.Offered.{accepted_offered, offered_as, refused_tests, tests_as}
 use Rattle.gen1_outcomes.proofs.ways.Ways.new.Goals as goal
 

@@ -1,7 +1,7 @@
 use Rattle.std.proofs.Common.{List, Some, false, not, rules, true, ◌≡◌, subst, sym, ◌∙◌}
 use Rattle.std.specs.Borrow.{GName}
 use Rattle.gen1_layout.specs.Parts.{Parts}
-use Rattle.gen1_layout.specs.Within.{Stands}
+use Rattle.gen1_layout.specs.Shows.{Stands}
 use Rattle.gen1_machine.specs.State.{State}
 use Rattle.gen1_engine.specs.Update.{AreOffered}
 use Rattle.gen1_outcomes.specs.declared.log.Entry.{Entry}

@@ -1,4 +1,4 @@
-use Rattle.gen1_player.proofs.Hearing.{hears_activate, hears_clear, hears_fault, hears_nothing, hears_tie, hears_turn, hears_win}
+use Rattle.gen1_player.proofs.HeardSides.{hears_activate, hears_clear, hears_fault, hears_nothing, hears_tie, hears_turn, hears_win}
 use Rattle.gen1_player.proofs.public.Public.hear.Goals as goal
 
 pub returns-in-Turn : goal.returns-in-Turn

@@ -1,4 +1,4 @@
-use Rattle.gen1_player.proofs.Hearing.{hears_one, hears_two}
+use Rattle.gen1_player.proofs.HeardSides.{hears_one, hears_two}
 use Rattle.gen1_player.proofs.public.Public.hear_of.Goals as goal
 
 pub returns-in-One : goal.returns-in-One

@@ -1,9 +1,8 @@
 use Rattle.std.proofs.Common.{ℕ, ◌<◌, ◌≤◌, List, length, ap, arith, refl, subst, sym, ◌∙◌}
 use Rattle.std.specs.Prelude.{slice_index}
-use Rattle.gen1_rolls.specs.Link.{FailsFrom, Ring, byte_of, after_draw, link, turned}
+use Rattle.gen1_rolls.specs.Steady.{FailsFrom, Ring, byte_of, after_draw, link, turned}
 use Rattle.gen1_rolls.specs.Streams.{IsFirstOf}
-use Rattle.gen1_rolls.proofs.Rings.{same_ring, turned-none}
-use Rattle.gen1_rolls.proofs.Rounds.{finds_in_round}
+use Rattle.gen1_rolls.proofs.Rings.{same_ring, turned-none, finds_in_round}
 use Rattle.gen1_rolls.proofs.Standing.{finds_as, none_finds, some_finds}
 use Rattle.gen1_rolls.proofs.link.LinkRandom.search.Goals as goal
 

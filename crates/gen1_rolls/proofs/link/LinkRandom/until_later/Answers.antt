@@ -1,9 +1,8 @@
 use Rattle.std.proofs.Common.{◌≡◌, ℕ, ◌+◌, ◌<◌, ◌≤◌, List, length, ap, arith, refl, subst, sym, ◌∙◌}
 use Rattle.std.specs.Prelude.{slice_index}
-use Rattle.gen1_rolls.specs.Link.{Ring, byte_of, after_draw, turned}
+use Rattle.gen1_rolls.specs.Steady.{Ring, byte_of, after_draw, turned}
 use Rattle.gen1_rolls.specs.Streams.{IsFirstOf}
-use Rattle.gen1_rolls.proofs.Rings.{same_ring, turned-more, turned-none}
-use Rattle.gen1_rolls.proofs.Rounds.{fails_first, fails_more, finds_in_round, finds_none}
+use Rattle.gen1_rolls.proofs.Rings.{same_ring, turned-more, turned-none, fails_first, fails_more, finds_in_round, finds_none}
 use Rattle.gen1_rolls.proofs.link.LinkRandom.until_later.Goals as goal
 
 pub rounds-init : goal.rounds-init

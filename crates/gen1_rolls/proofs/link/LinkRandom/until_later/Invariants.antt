@@ -1,7 +1,7 @@
 use Rattle.std.proofs.Common.{◌≡◌, ◌+◌, ◌*◌, ℕ, Bool}
 use Rattle.gen1_rolls.specs.Draws.{Settles}
-use Rattle.gen1_rolls.specs.Link.{FailsFrom, turned}
-use Rattle.gen1_rolls.proofs.Rounds.{Fails}
+use Rattle.gen1_rolls.specs.Steady.{FailsFrom, turned}
+use Rattle.gen1_rolls.proofs.Rings.{Fails}
 use Rattle.gen1_rolls.proofs.link.LinkRandom.until_later.Given as goal
 
 abbrev pub invariant-rounds : goal.invariant-rounds

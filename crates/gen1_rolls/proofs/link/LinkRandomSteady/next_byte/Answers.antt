@@ -1,6 +1,5 @@
 use Rattle.std.proofs.Common.{subst}
-use Rattle.gen1_rolls.specs.Steady.{stream_of}
-use Rattle.gen1_rolls.specs.Link.{Ring, link}
+use Rattle.gen1_rolls.specs.Steady.{stream_of, Ring, link}
 use Rattle.gen1_rolls.specs.Streams.{IsStream}
 use Rattle.gen1_rolls.proofs.link.LinkRandomSteady.next_byte.Goals as goal
 

@@ -1,5 +1,5 @@
 use Rattle.std.proofs.Common.{ap}
-use Rattle.gen1_rolls.specs.Looks.{sees}
+use Rattle.gen1_rolls.specs.Streams.{sees}
 use Rattle.gen1_rolls.proofs.rolls.Rolls.draw_as.Goals as goal
 
 pub returns-clause-drawn : goal.returns-clause-drawn

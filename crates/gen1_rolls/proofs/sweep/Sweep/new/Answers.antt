@@ -1,5 +1,5 @@
 use Rattle.std.proofs.Common.{arith}
-use Rattle.gen1_rolls.proofs.Sweeps.{sweep_stands}
+use Rattle.gen1_rolls.proofs.Standing.{sweep_stands}
 use Rattle.gen1_rolls.proofs.sweep.Sweep.new.Goals as goal
 
 pub returns-clause-stands : goal.returns-clause-stands

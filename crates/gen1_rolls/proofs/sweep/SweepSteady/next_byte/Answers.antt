@@ -1,6 +1,5 @@
 use Rattle.std.proofs.Common.{ℕ, subst}
-use Rattle.gen1_rolls.specs.Steady.{stream_of}
-use Rattle.gen1_rolls.specs.Sweep.{sweep}
+use Rattle.gen1_rolls.specs.Steady.{stream_of, sweep}
 use Rattle.gen1_rolls.specs.Streams.{IsStream}
 use Rattle.gen1_rolls.proofs.sweep.SweepSteady.next_byte.Goals as goal
 

@@ -2,7 +2,7 @@
 use Rattle.std.proofs.Common.{map, take, ◌≡◌}
 use Rattle.gen1_machine.specs.Room.{course_of, replies_of, room_of}
 use Rattle.gen1_machine.specs.State.{State}
-use Rattle.gen1_layout.specs.Within.{Stands}
+use Rattle.gen1_layout.specs.Shows.{Stands}
 use Rattle.gen1_room.specs.Rooms.{Holds, reply_of, submission_at}
 use Rattle.gen1_room.proofs.room.Room.run.Given as goal
 

@@ -1,7 +1,6 @@
 use Rattle.std.proofs.Common.{None, arith, length, refl, rules, subst, sym, ◌≡◌, ◌≤◌}
 use Rattle.gen1_stats.proofs.Ranges.{allowed, member_of-ranges, ups_allowed}
-use Rattle.gen1_stats.specs.Begun.{begun}
-use Rattle.gen1_stats.specs.Members.{IsMember}
+use Rattle.gen1_stats.specs.Members.{begun, IsMember}
 use Rattle.gen1_stats.specs.Teams.{member_of, member_refusal}
 use Rattle.gen1_stats.proofs.member.Member.new.Goals as goal
 

@@ -1,6 +1,5 @@
 use Rattle.std.proofs.Common.{None, arith, length, map, rules, subst, sym, take, [], ℕ, ◌+◌, ◌++◌, ◌<◌, ◌≡◌, ◌∙◌, ◌∷◌}
-use Rattle.gen1_stats.proofs.Joining.{first_refusal-drop}
-use Rattle.gen1_stats.proofs.Lists.{All-push, map-take_more}
+use Rattle.gen1_stats.proofs.Ranges.{first_refusal-drop, All-push, map-take_more}
 use Rattle.gen1_stats.specs.Members.{IsFresh}
 use Rattle.gen1_stats.specs.Teams.{member_of, member_refusal}
 use Rattle.gen1_stats.proofs.team.Team.new.Goals as goal

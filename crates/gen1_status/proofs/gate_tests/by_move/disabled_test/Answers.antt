@@ -1,7 +1,7 @@
 use Rattle.gen1_layout.proofs.Words.{conditions_in, goes, if_not, if_so, lit<, put_on_conditions, refl, stays, sym, ◌∙◌}
 use Rattle.gen1_machine.specs.Conditions.{without_charging}
 use Rattle.gen1_machine.specs.Gate.{disabled_test}
-use Rattle.gen1_status.proofs.Clearing.{charging-same}
+use Rattle.gen1_status.proofs.Statuses.{charging-same}
 use Rattle.gen1_status.proofs.gate_tests.by_move.disabled_test.Goals as goal
 
 pub returns-then-not-is_disabled-clause-shown : goal.returns-then-not-is_disabled-clause-shown

@@ -4,8 +4,8 @@ use Rattle.gen1_stats.specs.Members.{is_paralysed}
 use Rattle.gen1_machine.specs.Conditions.{broken_off}
 use Rattle.gen1_machine.specs.declared.event.CantReason.TheVariants as reasons
 use Rattle.gen1_machine.specs.Gate.{cant, may_be_paralysed, paralysis_test}
-use Rattle.gen1_hits.proofs.Searching.{drawing_like}
-use Rattle.gen1_status.proofs.Comparing.{below, not_below}
+use Rattle.gen1_hits.proofs.Knowledge.{drawing_like}
+use Rattle.gen1_status.proofs.Statuses.{below, not_below}
 use Rattle.gen1_status.proofs.gate_tests.by_move.paralysis_test.Goals as goal
 
 pub returns-then-not-is_paralysed-clause-shown : goal.returns-then-not-is_paralysed-clause-shown

@@ -5,8 +5,7 @@ use Rattle.gen1_machine.specs.declared.event.Event.TheVariants as events
 use Rattle.gen1_machine.specs.State.{with_sleep_one_less}
 use Rattle.gen1_machine.specs.Valid.{IsStatus}
 use Rattle.gen1_machine.specs.Gate.{sleep_on, sleep_test, wake}
-use Rattle.gen1_status.proofs.Comparing.{at_most, not_at_most}
-use Rattle.gen1_status.proofs.Sleeping.{one_turn_less, sleeps_on, wakes}
+use Rattle.gen1_status.proofs.Statuses.{at_most, not_at_most, one_turn_less, sleeps_on, wakes}
 use Rattle.gen1_status.proofs.gate_tests.by_status.sleep_turn.Goals as goal
 
 pub returns-then-turns-le1-clause-shown : goal.returns-then-turns-le1-clause-shown

@@ -3,9 +3,8 @@ use Rattle.gen1_machine.specs.declared.event.Event.TheVariants as events
 use Rattle.gen1_machine.specs.declared.event.Volatile.TheVariants as volatiles
 use Rattle.gen1_machine.specs.Conditions.{with_disable_one_less, without_disable}
 use Rattle.gen1_machine.specs.Gate.{disable_count}
-use Rattle.gen1_layout.specs.Storable.{IsStorableDisabled}
-use Rattle.gen1_status.proofs.Counting.{less_disabled}
-use Rattle.gen1_status.proofs.Comparing.{at_most, not_at_most}
+use Rattle.gen1_layout.specs.Shows.{IsStorableDisabled}
+use Rattle.gen1_status.proofs.Statuses.{less_disabled, at_most, not_at_most}
 use Rattle.gen1_status.proofs.gate_tests.by_turn.disable_count.Goals as goal
 
 pub returns-in_default-clause-shown : goal.returns-in_default-clause-shown

@@ -1,7 +1,7 @@
 use Rattle.gen1_layout.proofs.Words.{conditions_in, goes, if_not, if_so, lit<, put_on_conditions, refl, stays, sym, ◌∙◌}
 use Rattle.gen1_machine.specs.Conditions.{without_flinch}
 use Rattle.gen1_machine.specs.Gate.{flinch_test}
-use Rattle.gen1_status.proofs.Clearing.{flinch-same}
+use Rattle.gen1_status.proofs.Statuses.{flinch-same}
 use Rattle.gen1_status.proofs.gate_tests.by_turn.flinch_test.Goals as goal
 
 pub returns-then-not-is_on-clause-shown : goal.returns-then-not-is_on-clause-shown

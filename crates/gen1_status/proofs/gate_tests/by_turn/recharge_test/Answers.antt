@@ -1,7 +1,7 @@
 use Rattle.gen1_layout.proofs.Words.{conditions_in, goes, if_not, if_so, lit<, put_on_conditions, refl, stays, sym, ◌∙◌}
 use Rattle.gen1_machine.specs.Conditions.{without_recharge}
 use Rattle.gen1_machine.specs.Gate.{recharge_test}
-use Rattle.gen1_status.proofs.Clearing.{recharge-same}
+use Rattle.gen1_status.proofs.Statuses.{recharge-same}
 use Rattle.gen1_status.proofs.gate_tests.by_turn.recharge_test.Goals as goal
 
 pub returns-then-not-is_on-clause-shown : goal.returns-then-not-is_on-clause-shown

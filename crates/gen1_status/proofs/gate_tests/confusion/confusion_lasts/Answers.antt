@@ -9,8 +9,7 @@ use Rattle.gen1_machine.specs.Gate.{may_hurt_itself}
 use Rattle.gen1_machine.specs.Valid.{IsCount}
 use Rattle.gen1_machine.proofs.Keeps.{lasts-keeps, stay-keeps}
 use Rattle.gen1_status.specs.declared.gate_answer.Gate.TheVariants.{Go}
-use Rattle.gen1_status.proofs.Comparing.{at_most, not_at_most}
-use Rattle.gen1_status.proofs.Counting.{less_confused}
+use Rattle.gen1_status.proofs.Statuses.{at_most, not_at_most, less_confused}
 use Rattle.gen1_status.proofs.Told.{conditions-spare, drawn_tells, still_tells, tells, tells_drawing, tells_goes, tells_if_not, tells_if_so}
 use Rattle.gen1_status.proofs.gate_tests.confusion.confusion_lasts.Goals as goal
 

@@ -4,7 +4,7 @@ use Rattle.gen1_machine.specs.Conditions.{without_confusion}
 use Rattle.gen1_machine.specs.Gate.{confusion_test}
 use Rattle.gen1_machine.proofs.Keeps.{ends-keeps, stay-keeps}
 use Rattle.gen1_status.specs.declared.gate_answer.Gate.TheVariants.{Go}
-use Rattle.gen1_status.proofs.Comparing.{at_most, not_at_most}
+use Rattle.gen1_status.proofs.Statuses.{at_most, not_at_most}
 use Rattle.gen1_status.proofs.Told.{conditions-spare, drawn_tells, still_tells, tells, tells_if_not, tells_if_so}
 use Rattle.gen1_status.proofs.gate_tests.confusion.confusion_test.Goals as goal
 

@@ -1,5 +1,5 @@
 use Rattle.std.proofs.Common.{arith}
-use Rattle.gen1_tables.proofs.Rows.{accuracy-at, move_row-at, pp-le}
+use Rattle.gen1_tables.proofs.Named.{accuracy-at, move_row-at, pp-le}
 use Rattle.gen1_tables.proofs.moves.MoveId.row.Goals as goal
 
 pub returns-clause-value : goal.returns-clause-value

@@ -1,5 +1,5 @@
 use Rattle.std.proofs.Common.{arith}
-use Rattle.gen1_tables.proofs.Rows.{base_of-at}
+use Rattle.gen1_tables.proofs.Named.{base_of-at}
 use Rattle.gen1_tables.proofs.species.Species.base.Goals as goal
 
 pub returns : goal.returns

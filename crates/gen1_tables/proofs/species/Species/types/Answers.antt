@@ -1,5 +1,5 @@
 use Rattle.std.proofs.Common.{arith}
-use Rattle.gen1_tables.proofs.Rows.{types_of-at}
+use Rattle.gen1_tables.proofs.Named.{types_of-at}
 use Rattle.gen1_tables.proofs.species.Species.types.Goals as goal
 
 pub returns : goal.returns

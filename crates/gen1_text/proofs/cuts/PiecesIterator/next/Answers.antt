@@ -1,6 +1,6 @@
 use Rattle.std.proofs.Common.{ap, arith, length, ◌∙◌}
-use Rattle.gen1_text.specs.PieceLists.{pieces_of_rest}
-use Rattle.gen1_text.proofs.PieceLemmas.{pieces_of_at, pieces_of_whole}
+use Rattle.gen1_text.specs.Words.{pieces_of_rest}
+use Rattle.gen1_text.proofs.TextLemmas.{pieces_of_at, pieces_of_whole}
 use Rattle.gen1_text.proofs.cuts.PiecesIterator.next.Goals as goal
 
 pub returns-then-place-rest-clause-steps : goal.returns-then-place-rest-clause-steps

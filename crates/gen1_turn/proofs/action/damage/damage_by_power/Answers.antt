@@ -7,7 +7,7 @@ use Rattle.gen1_machine.specs.Damage.{roll_damage}
 use Rattle.gen1_machine.specs.HitTest.{hit_or_miss}
 use Rattle.gen1_machine.specs.Moves.{move_at}
 use Rattle.gen1_machine.specs.Progress.{choose}
-use Rattle.gen1_status.proofs.Comparing.{below}
+use Rattle.gen1_status.proofs.Statuses.{below}
 use Rattle.gen1_hits.specs.Knowing.{knowing}
 use Rattle.gen1_turn.specs.Damage.{LikeDamage}
 use Rattle.gen1_turn.proofs.Damage.{late-power, like-goes, like-halted, tested-like}

@@ -1,13 +1,13 @@
 use Rattle.std.proofs.Common.{min, ◌==◌, ◌≡◌}
 use Rattle.gen1_layout.proofs.Words.{Action, None, Option, Some, ap, arith, drawn_acted, drawn_seeing, goes, halted, inl, lit≤, put, refl, set_last_damage, still, subst, sym, then-goes, true, ℕ, ◌∙◌, ◌▸◌}
-use Rattle.gen1_rolls.specs.Looks.{limit_of}
+use Rattle.gen1_rolls.specs.Streams.{limit_of}
 use Rattle.gen1_machine.specs.declared.terms.Outcome.TheVariants as outcomes
 use Rattle.gen1_machine.specs.Damage.{before_types, damage_from, numbers_in, roll_damage, set_through_types, type_steps, vary, DamageNumbers}
 use Rattle.gen1_machine.specs.Moves.{move_at}
 use Rattle.gen1_machine.specs.Progress.{fault, given, on_action, on_field, set_missed}
 use Rattle.gen1_machine.specs.Sides.{other}
 use Rattle.gen1_machine.specs.State.{with_last_damage, with_outcome}
-use Rattle.gen1_hits.proofs.Varying.{varying}
+use Rattle.gen1_hits.proofs.Knowledge.{varying}
 use Rattle.gen1_turn.specs.Damage.{limit_in}
 use Rattle.gen1_turn.proofs.Damage.{like-of, limit-same}
 use Rattle.gen1_turn.proofs.action.damage.roll_damage.Goals as goal

@@ -2,7 +2,7 @@ use Rattle.gen1_layout.proofs.Words.{drawn_goes, drawn_settled, drawn_stops, sti
 use Rattle.gen1_machine.specs.Action.{lead_up}
 use Rattle.gen1_machine.specs.Charging.{charge}
 use Rattle.gen1_machine.specs.Moves.{move_at}
-use Rattle.gen1_machine.proofs.SoundFacts.{is-move}
+use Rattle.gen1_machine.proofs.Sound.{is-move}
 use Rattle.gen1_hits.specs.Knowing.{knowing}
 use Rattle.gen1_hits.proofs.Planning.{before-valid, charge-passes, doing, next, use_move-leads, used-fits, went-on}
 use Rattle.gen1_turn.proofs.action.lead_up.lead_up.Goals as goal

@@ -1,7 +1,7 @@
 use Rattle.gen1_layout.proofs.Words.{drawn_goes, drawn_settled, drawn_stops}
 use Rattle.gen1_machine.specs.Action.{carry_out}
 use Rattle.gen1_machine.specs.Moves.{move_at}
-use Rattle.gen1_machine.proofs.SoundFacts.{is-move}
+use Rattle.gen1_machine.proofs.Sound.{is-move}
 use Rattle.gen1_hits.proofs.Knowledge.{does_still}
 use Rattle.gen1_hits.proofs.Planning.{bide-before, doing, led_up, next}
 use Rattle.gen1_rolls.specs.Draws.{by_then}

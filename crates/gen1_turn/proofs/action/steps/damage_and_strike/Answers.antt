@@ -3,9 +3,9 @@ use Rattle.gen1_machine.specs.Action.{damage_of, lands_at_once, strike}
 use Rattle.gen1_machine.specs.Moves.{move_at}
 use Rattle.gen1_machine.specs.Progress.{unless}
 use Rattle.gen1_machine.specs.Ruling.{ruling_of}
-use Rattle.gen1_machine.proofs.SoundFacts.{is-move}
+use Rattle.gen1_machine.proofs.Sound.{is-move}
 use Rattle.gen1_hits.proofs.Planning.{damages}
-use Rattle.gen1_turn.specs.ActionSteps.{late_part}
+use Rattle.gen1_turn.specs.Action.{late_part}
 use Rattle.gen1_turn.proofs.Damage.{late-stops, like-goes, like-halted, like-valid, struck-like}
 use Rattle.gen1_rolls.specs.Draws.{by_then}
 use Rattle.gen1_turn.proofs.action.steps.damage_and_strike.Goals as goal

@@ -3,7 +3,7 @@ use Rattle.gen1_layout.proofs.Words.{IsBetween, active_in, ap, length, member_in
 use Rattle.gen1_machine.specs.declared.picks.UsedMove.{UsedMove}
 use Rattle.gen1_machine.specs.Picks.{number_in, used_by}
 use Rattle.gen1_machine.specs.Valid.{IsUsedMove}
-use Rattle.gen1_turn.proofs.Used.{made, some_made}
+use Rattle.gen1_turn.proofs.Turns.{made, some_made}
 use Rattle.gen1_turn.proofs.action.taken_move.move_taken.Goals as goal
 
 pub returns-in-Some : goal.returns-in-Some

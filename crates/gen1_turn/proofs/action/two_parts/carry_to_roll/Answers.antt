@@ -5,10 +5,10 @@ use Rattle.gen1_machine.specs.GoingOn.{bide_goes_on}
 use Rattle.gen1_machine.specs.Moves.{move_at}
 use Rattle.gen1_machine.specs.Progress.{unless}
 use Rattle.gen1_machine.specs.Ruling.{ruling_of}
-use Rattle.gen1_machine.proofs.SoundFacts.{is-move}
+use Rattle.gen1_machine.proofs.Sound.{is-move}
 use Rattle.gen1_hits.proofs.Knowledge.{does_still, over}
 use Rattle.gen1_hits.proofs.Planning.{bide-before, doing, led_up, next}
-use Rattle.gen1_turn.specs.ActionSteps.{damage_and_strike}
+use Rattle.gen1_turn.specs.Action.{damage_and_strike}
 use Rattle.gen1_turn.proofs.TwoParts.{bide-fresh, fresh-still}
 use Rattle.gen1_turn.proofs.action.two_parts.carry_to_roll.Goals as goal
 

@@ -7,7 +7,7 @@ use Rattle.gen1_machine.specs.HitTest.{hit_or_miss}
 use Rattle.gen1_machine.specs.Moves.{move_at}
 use Rattle.gen1_machine.specs.Ruling.{ruling_of}
 use Rattle.gen1_hits.specs.Knowing.{knowing}
-use Rattle.gen1_turn.specs.ActionSteps.{late_part}
+use Rattle.gen1_turn.specs.Action.{late_part}
 use Rattle.gen1_turn.proofs.TwoParts.{critical-fresh, then-same, then-then}
 use Rattle.gen1_turn.proofs.action.two_parts.critical_to_roll.Goals as goal
 

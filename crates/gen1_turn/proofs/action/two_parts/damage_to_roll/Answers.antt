@@ -8,10 +8,10 @@ use Rattle.gen1_machine.specs.Moves.{move_at}
 use Rattle.gen1_machine.specs.Progress.{draw_until, fault, given, on_action, on_field, set_missed}
 use Rattle.gen1_machine.specs.Ruling.{ruling_of}
 use Rattle.gen1_machine.specs.State.{with_outcome}
-use Rattle.gen1_status.proofs.Comparing.{at_most}
+use Rattle.gen1_status.proofs.Statuses.{at_most}
 use Rattle.gen1_hits.proofs.Knowledge.{over}
 use Rattle.gen1_turn.specs.declared.action.two_parts.Roll.{Roll}
-use Rattle.gen1_turn.specs.ActionSteps.{late_part}
+use Rattle.gen1_turn.specs.Action.{late_part}
 use Rattle.gen1_turn.proofs.TwoParts.{known-there, not-zero, then-same}
 use Rattle.gen1_turn.proofs.action.two_parts.damage_to_roll.Goals as goal
 

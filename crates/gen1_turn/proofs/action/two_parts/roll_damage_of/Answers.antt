@@ -1,11 +1,11 @@
 use Rattle.std.proofs.Common.{min, ◌≡◌}
 use Rattle.gen1_layout.proofs.Words.{arith, set_last_damage, subst, sym, ℕ, ◌∙◌}
-use Rattle.gen1_rolls.specs.Looks.{limit_of}
+use Rattle.gen1_rolls.specs.Streams.{limit_of}
 use Rattle.gen1_machine.specs.Damage.{vary}
 use Rattle.gen1_machine.specs.Progress.{on_field}
 use Rattle.gen1_machine.specs.Sides.{other}
 use Rattle.gen1_machine.specs.State.{with_last_damage}
-use Rattle.gen1_hits.proofs.Varying.{varying}
+use Rattle.gen1_hits.proofs.Knowledge.{varying}
 use Rattle.gen1_turn.specs.Damage.{limit_in}
 use Rattle.gen1_turn.proofs.Damage.{like-of, limit-same}
 use Rattle.gen1_turn.proofs.TwoParts.{not-zero}

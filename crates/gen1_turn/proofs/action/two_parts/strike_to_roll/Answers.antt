@@ -6,7 +6,7 @@ use Rattle.gen1_machine.specs.Moves.{move_at}
 use Rattle.gen1_machine.specs.Progress.{unless}
 use Rattle.gen1_machine.specs.Ruling.{ruling_of}
 use Rattle.gen1_hits.proofs.Knowledge.{over}
-use Rattle.gen1_turn.specs.ActionSteps.{late_part}
+use Rattle.gen1_turn.specs.Action.{late_part}
 use Rattle.gen1_turn.proofs.TwoParts.{either-none, formula-used, then-same, usual-is}
 use Rattle.gen1_turn.proofs.action.two_parts.strike_to_roll.Goals as goal
 

@@ -3,7 +3,7 @@ use Rattle.gen1_machine.specs.Action.{strike}
 use Rattle.gen1_machine.specs.HitTest.{hit_or_miss}
 use Rattle.gen1_machine.specs.Moves.{move_at}
 use Rattle.gen1_machine.specs.Ruling.{ruling_of}
-use Rattle.gen1_turn.specs.ActionSteps.{late_part}
+use Rattle.gen1_turn.specs.Action.{late_part}
 use Rattle.gen1_turn.proofs.Damage.{late-none}
 use Rattle.gen1_turn.proofs.TwoParts.{not-late}
 use Rattle.gen1_rolls.specs.Draws.{by_then}

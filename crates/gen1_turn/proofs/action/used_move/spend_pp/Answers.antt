@@ -3,7 +3,7 @@ use Rattle.gen1_machine.specs.declared.picks.UsedMove.{UsedMove}
 use Rattle.gen1_machine.specs.declared.picks.UsedMove.TheVariants.{Nothing, Struggle}
 use Rattle.gen1_machine.specs.State.{with_pp_spent}
 use Rattle.gen1_machine.specs.Valid.{IsUsedMove}
-use Rattle.gen1_turn.proofs.Used.{unchanged-member}
+use Rattle.gen1_turn.proofs.Turns.{unchanged-member}
 use Rattle.gen1_turn.proofs.action.used_move.spend_pp.Goals as goal
 
 pub returns-in-Nothing : goal.returns-in-Nothing

@@ -1,5 +1,5 @@
 use Rattle.gen1_machine.specs.Charging.{make_current}
-use Rattle.gen1_turn.proofs.Used.{still_current}
+use Rattle.gen1_turn.proofs.Turns.{still_current}
 use Rattle.gen1_turn.proofs.action.used_move.take_up.Goals as goal
 
 pub returns-in-Continue : goal.returns-in-Continue

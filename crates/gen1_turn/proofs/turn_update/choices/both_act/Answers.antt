@@ -4,7 +4,7 @@ use Rattle.gen1_machine.specs.Ruling.{ruling_of}
 use Rattle.gen1_machine.specs.Sides.{other}
 use Rattle.gen1_machine.specs.Turn.{do_part, do_parts, end_turn, Acts, Suffers}
 use Rattle.gen1_machine.specs.Plans.{with_plan, Any, FitsPick, Plan}
-use Rattle.gen1_machine.proofs.ValidTurns.{act_part, suffers_part, with_plan-other}
+use Rattle.gen1_machine.proofs.ValidSteps.{act_part, suffers_part, with_plan-other}
 use Rattle.gen1_turn.proofs.Turns.{cut_short, ended, ended_uncut, ends_as}
 use Rattle.gen1_rolls.specs.Draws.{by_then}
 use Rattle.gen1_turn.proofs.turn_update.choices.both_act.Goals as goal

@@ -2,7 +2,7 @@ use Rattle.gen1_layout.proofs.Words.{as_list, drawn_as_list, drawn_from_list, qu
 use Rattle.gen1_machine.specs.declared.side.Side.TheVariants.{One, Two}
 use Rattle.gen1_machine.specs.Ruling.{ruling_of}
 use Rattle.gen1_machine.specs.Turn.{both_act, both_pick, do_parts, set_picked}
-use Rattle.gen1_machine.proofs.ValidTurns.{set_picked-keeps}
+use Rattle.gen1_machine.proofs.ValidSteps.{set_picked-keeps}
 use Rattle.gen1_hits.specs.Knowing.{knowing, with_broke}
 use Rattle.gen1_turn.proofs.Turns.{cut_as, picked-fits, ranked}
 use Rattle.gen1_rolls.specs.Draws.{by_then}

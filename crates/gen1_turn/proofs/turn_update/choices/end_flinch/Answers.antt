@@ -1,6 +1,6 @@
 use Rattle.gen1_layout.proofs.Words.{conditions_in, lit<, put_on_conditions, refl}
 use Rattle.gen1_machine.specs.Conditions.{without_flinch}
-use Rattle.gen1_status.proofs.Clearing.{flinch-same}
+use Rattle.gen1_status.proofs.Statuses.{flinch-same}
 use Rattle.gen1_turn.proofs.turn_update.choices.end_flinch.Goals as goal
 
 pub returns : goal.returns

@@ -5,7 +5,7 @@ use Rattle.gen1_machine.specs.Ruling.{ruling_of}
 use Rattle.gen1_machine.specs.Sides.{other}
 use Rattle.gen1_machine.specs.Turn.{do_part, do_parts, end_spent_trapping, end_turn, one_picks, set_picked, Acts, Sends, Suffers}
 use Rattle.gen1_machine.specs.Plans.{with_plan, Any, FitsPick, Plan}
-use Rattle.gen1_machine.proofs.ValidTurns.{act_part, send_part, set_picked-keeps, suffers_part}
+use Rattle.gen1_machine.proofs.ValidSteps.{act_part, send_part, set_picked-keeps, suffers_part}
 use Rattle.gen1_hits.specs.Knowing.{knowing, with_broke}
 use Rattle.gen1_turn.proofs.Living.{picked-may, picked-whole}
 use Rattle.gen1_turn.proofs.Trapping.{end-one, idle-planned, idle-untrapped, idle_plan, own-plan, sends-nothing}

@@ -6,7 +6,7 @@ use Rattle.gen1_machine.specs.State.{with_picked_move}
 use Rattle.gen1_machine.specs.Progress.{active}
 use Rattle.gen1_machine.specs.Turn.{set_picked}
 use Rattle.gen1_machine.specs.Valid.{IsUsedMove}
-use Rattle.gen1_turn.proofs.Used.{still_picked}
+use Rattle.gen1_turn.proofs.Turns.{still_picked}
 use Rattle.gen1_turn.proofs.turn_update.choices.set_picked.Goals as goal
 
 pub returns-in-Use : goal.returns-in-Use

@@ -8,8 +8,7 @@ use Rattle.gen1_machine.specs.State.{with_picked_move}
 use Rattle.gen1_machine.specs.Turn.{set_picked}
 use Rattle.gen1_machine.specs.TurnOrder.{rank}
 use Rattle.gen1_machine.specs.Valid.{IsUsedMove}
-use Rattle.gen1_turn.proofs.Turns.{picked-now}
-use Rattle.gen1_turn.proofs.Used.{still_picked}
+use Rattle.gen1_turn.proofs.Turns.{picked-now, still_picked}
 use Rattle.gen1_turn.proofs.turn_update.choices.settle_pick.Goals as goal
 
 pub returns-in-Use : goal.returns-in-Use

@@ -5,7 +5,7 @@ use Rattle.gen1_tables.specs.declared.effect.Stat.TheVariants.{Speed}
 use Rattle.gen1_machine.specs.declared.side.Side.TheVariants.{One, Two}
 use Rattle.gen1_machine.specs.CurrentStats.{now_in}
 use Rattle.gen1_machine.specs.TurnOrder.{in_order_of_speed}
-use Rattle.gen1_status.proofs.Comparing.{below, not_below}
+use Rattle.gen1_status.proofs.Statuses.{below, not_below}
 use Rattle.gen1_turn.proofs.Turns.{tossed_one, tossed_two}
 use Rattle.gen1_turn.proofs.turn_update.order.faster_side.Goals as goal
 

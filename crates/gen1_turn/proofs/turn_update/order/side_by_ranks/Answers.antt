@@ -1,6 +1,6 @@
 use Rattle.gen1_layout.proofs.Words.{choose-false, choose-true, ◌∙◌}
 use Rattle.gen1_machine.specs.TurnOrder.{in_order_of_rank}
-use Rattle.gen1_status.proofs.Comparing.{below, not_below}
+use Rattle.gen1_status.proofs.Statuses.{below, not_below}
 use Rattle.gen1_turn.proofs.turn_update.order.side_by_ranks.Goals as goal
 
 pub returns-then-one-two-clause-shown : goal.returns-then-one-two-clause-shown

@@ -1,6 +1,6 @@
 use Rattle.gen1_layout.proofs.Words.{goes, sym, ◌∙◌}
 use Rattle.gen1_machine.specs.Turn.{do_part}
-use Rattle.gen1_status.proofs.Untested.{residual-spares}
+use Rattle.gen1_status.proofs.Told.{residual-spares}
 use Rattle.gen1_turn.proofs.Living.{hurt-sent, sends-whole}
 use Rattle.gen1_turn.proofs.Turns.{begins-in_range, begun_still, sent_left}
 use Rattle.gen1_turn.proofs.turn_update.parts.sends_and_suffers.Goals as goal

@@ -1,5 +1,5 @@
 use Rattle.gen1_layout.proofs.Words.{sym, ◌∙◌}
-use Rattle.gen1_status.proofs.Untested.{residual-spares}
+use Rattle.gen1_status.proofs.Told.{residual-spares}
 use Rattle.gen1_turn.proofs.Living.{cut_by_fall}
 use Rattle.gen1_turn.proofs.Turns.{cut_before}
 use Rattle.gen1_turn.proofs.turn_update.parts.suffer.Goals as goal
