@@ -7,7 +7,7 @@ import {CONDITIONS} from "./views.mjs";
 export const PLAYER_SIZE = CODES.PLAYER_SIZE;
 export const TELLER_SIZE = layoutOf("gen1_teller", false).size;
 
-// Fields that are no columns: those without information, newer ones, and those of the player's own side that are also public.
+// Fields without a column: those without information, newer ones, and those of the player's own side that are also public.
 const LEFT_OUT = {
   gen1_own_side: ["turn", "outcome"],
   gen1_own_member: ["unused"],

@@ -92,7 +92,7 @@ impl<'a> Fighter<'a> {
         MoveId::new(self.member[member::MOVES + slot]).filter(|_| has_pp)
     }
 
-    /// The expected damage of a move to a foe, a miss counting as 0; `None` if it is no move of damage.
+    /// The expected damage of a move to a foe, a miss counting as 0; `None` if the move does no damage.
     fn damage(self, foe: Fighter<'_>, id: MoveId) -> Option<f32> {
         let base = match Damage::of(self.member, id)? {
             Damage::Fixed(damage) => return Some(damage),

@@ -88,8 +88,8 @@ impl Prior {
     /// A team that the foe of a player may have: first the members that appeared, in their order, then others.
     ///
     /// It is a team of the prior that has all that was seen, if there is one; one time in eight, and if there is none, its members are
-    /// taken from different teams. Moves that were seen and that no team has are completed by others of the species. Where the HP that the
-    /// player was told don't allow a member's maximum, its experience for HP and its DVs are others.
+    /// taken from different teams. Moves that were seen and that no team has are completed by others of the species. A member whose maximum
+    /// the HP that the player saw rule out gets less experience for HP, and other DVs if it needs them.
     ///
     /// # Errors
     ///
@@ -183,8 +183,8 @@ impl Prior {
     }
 }
 
-/// A member with a maximum that the HP allow which the player was told: as it is, with less experience for HP, or with other DVs too. As it
-/// is if there is none.
+/// The member with a maximum that the HP that the player saw allow: unchanged, with less experience for HP, or with other DVs too. If no
+/// maximum is allowed, it stays unchanged.
 fn allowed(spec: MemberSpec, seen: &Seen, player: &Player) -> MemberSpec {
     let is_allowed = |spec: &MemberSpec| {
         let team = Team::new(core::slice::from_ref(spec));
