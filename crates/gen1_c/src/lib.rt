@@ -61,7 +61,7 @@ pub mod rooms;
 pub mod sentences;
 pub mod spectators;
 pub mod team_text;
-mod teams;
+pub mod teams;
 pub mod texts;
 pub mod the_theorem;
 pub mod update;

@@ -5,7 +5,6 @@
 //! - `fault`: why a team has no text
 //! - `numbers`: EVs and IVs
 //! - `packed`: members and teams as packed lines
-//! - `tests`: teams written as text
 //! - `written`: teams as text, or why there is none
 #![tactic(auto)]
 
@@ -14,8 +13,6 @@ mod export;
 mod fault;
 mod numbers;
 mod packed;
-#[cfg(test)]
-mod tests;
 mod written;
 
 pub use fault::WriteFault;

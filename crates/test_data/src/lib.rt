@@ -1,12 +1,12 @@
-//! Tests of `gen1_tables`, `gen1_rolls`, `gen1_stats`, `gen1_text`, `gen1_machine`, `gen1_layout` and `gen1_states`,
-//! through their public functions. They are in a separate crate because a crate with tests is
+//! Tests of `gen1_tables`, `gen1_rolls`, `gen1_stats`, `gen1_text`, `gen1_writer`, `gen1_machine`, `gen1_layout` and
+//! `gen1_states`, through their public functions. They are in a separate crate because a crate with tests is
 //! proved twice. Expected values come from docs/TABLES.md, docs/MECHANICS.md, docs/TEAM_TEXT.md and docs/LAYOUT.md.
 //!
 //! - `tables`: rows of each table
 //! - `draws`: worked draws
 //! - `teams`: worked stats, and refusals
 //! - `export_texts`: export texts
-//! - `packed_lines`: packed lines
+//! - `packed_lines`: packed lines, and teams written as text
 //! - `values`: ranges, bytes and numbers of gen1_machine, and devices that fail
 //! - `laws`: each law of gen1_machine once
 //! - `fields`: each reader and writer of the 384 bytes

@@ -1,7 +1,8 @@
-//! Packed lines (docs/TEAM_TEXT.md, "Packed line", "Faults").
+//! Packed lines, and teams written as text (docs/TEAM_TEXT.md, "Packed line", "Writing", "Faults").
 use crate::comparing::{Written, assert_same, assert_written, stats};
 use gen1_stats::TeamRefusal;
-use gen1_text::{MemberFault, PackedFault, members_in_packed, team_in_packed};
+use gen1_text::{MemberFault, PackedFault, members_in_packed, members_in_text, team_in_packed};
+use gen1_writer::{team_to_packed, team_to_text};
 use std::test::Fail;
 
 const TWO_MEMBERS: &[u8] =
@@ -102,5 +103,24 @@ fn faults_in_words(rt: HostRuntime) -> Result<(), Fail> {
     let printed = format!(in rt.alloc(); "{fault}")?;
     let words = "member 1, field 11: expected a level from 1 to 100";
     assert_same(&rt, printed.as_str(), words);
+    Ok(())
+}
+
+const TEXT: &[u8] =
+    b"Bob (Tauros)\nLevel: 88\nIVs: 0 Atk\n- Body Slam\n\nMr. Mime\nEVs: 255 HP / 4 Spe\n- Psychic\n- Double-Edge\n";
+
+const EXPORT: &[u8] =
+    b"Tauros\nLevel: 88\nIVs: 14 HP / 0 Atk\n- Body Slam\n\nMr. Mime\nEVs: 252 HP / 0 Atk / 0 Def / 0 SpA / 0 SpD / 4 Spe\n- Psychic\n- Double-Edge\n";
+
+const PACKED: &[u8] =
+    b"Tauros||||bodyslam||||14,0,,,,||88|]Mr. Mime||||psychic,doubleedge||252,0,0,0,0,4|||||\n";
+
+#[test]
+fn two_members_are_written(rt: HostRuntime) -> Result<(), Fail> {
+    let members = members_in_text(TEXT)?;
+    let export = team_to_text(members.as_slice())?;
+    assert_same(&rt, export.as_slice(), EXPORT);
+    let packed = team_to_packed(members.as_slice())?;
+    assert_same(&rt, packed.as_slice(), PACKED);
     Ok(())
 }

@@ -5,6 +5,8 @@
 #[rustfmt::skip]
 mod generated;
 mod slices;
+#[cfg(test)]
+mod tests;
 
 // Added to the sources (docs/PLAIN.md, "What is added"): gen1_build of include/gen1.h, and the panic handler of a library without std. The
 // sources are proved not to panic, but rustc cannot know that and requires a handler.

@@ -6,7 +6,6 @@
 //! - `fault`: why a team has no text
 //! - `numbers`: EVs and IVs
 //! - `packed`: members and teams as packed lines
-//! - `tests`: teams written as text
 //! - `written`: teams as text, or why there is none
 
 mod bytes {
