@@ -89,13 +89,9 @@ fn memory() -> (Packed, PlainSpectator) {
     (Packed::new(&one, &two, [0; 10]), first(&one, &two))
 }
 
-fn is_logged(update: &Update, log: &[u8]) -> bool {
-    update.log_length == log.len() && update.log.starts_with(log)
-}
-
-fn is_shown_at_the_end(watch: &PlainSpectator) -> bool {
-    let ends = watch.turn == 2 && watch.outcome == 1 && watch.held_count == 0;
-    ends && watch.one.members[0].hp == 263 && watch.two.members[0].hp == 0
+fn assert_is_shown_at_the_end(watch: &PlainSpectator) {
+    assert_eq!((watch.turn, watch.outcome, watch.held_count), (2, 1, 0));
+    assert_eq!([watch.one.members[0].hp, watch.two.members[0].hp], [263, 0]);
 }
 
 #[test]
@@ -111,14 +107,23 @@ fn the_stored_battle_is_played_and_watched() {
             &mut watch,
             &pieces,
         );
-        assert!(code == 0 && is_shown_at_the_end(&watch));
-        assert!(is_logged(&updates[0], &LOG[..23]) && is_logged(&updates[1], &LOG[23..59]),);
-        assert!(is_logged(&updates[2], &[]) && updates[2].code == 26);
-        assert!(is_logged(&updates[3], &[]) && updates[3].code == 25);
-        assert!(is_logged(&updates[4], &LOG[59..]) && updates[4].code == 0,);
-        assert!(updates[4].count_two == 1 && updates[4].offered_two[0] == STRENGTH,);
-        assert!(updates[4].stored == updates[3].stored && updates[4].stored[1] == 2,);
-        assert!(updates[4].loaded == 0 && gen1_result(&battle) == 1);
+        assert_eq!(code, 0);
+        assert_is_shown_at_the_end(&watch);
+        let due = [
+            (0, &LOG[..23]),
+            (0, &LOG[23..59]),
+            (26, &[]),
+            (25, &[]),
+            (0, &LOG[59..]),
+        ];
+        for (update, (code, log)) in updates.iter().zip(due) {
+            assert_eq!((update.code, &update.log[..update.log_length]), (code, log));
+        }
+        let [.., refused, last] = &updates;
+        assert_eq!((last.count_two, last.offered_two[0]), (1, STRENGTH));
+        assert_eq!(last.stored, refused.stored);
+        assert_eq!((last.stored[1], last.loaded), (2, 0));
+        assert_eq!(gen1_result(&battle), 1);
     }
 }
 
@@ -134,7 +139,7 @@ fn what_makes_no_battle_or_is_no_log_is_refused() {
         &mut watch,
         &pieces,
     );
-    assert!(code == 12 && updates[0].code == 170);
+    assert_eq!((code, updates[0].code), (12, 170));
     let code = the_theorem_in_c(
         &two_tauros(3),
         &mut battle,
@@ -142,5 +147,5 @@ fn what_makes_no_battle_or_is_no_log_is_refused() {
         &mut watch,
         &pieces,
     );
-    assert!(code == 32 && updates[0].code == 0);
+    assert_eq!((code, updates[0].code), (32, 0));
 }

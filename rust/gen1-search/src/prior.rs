@@ -88,8 +88,8 @@ impl Prior {
     /// A team that the foe of a player may have: first the members that appeared, in their order, then others.
     ///
     /// It is a team of the prior that has all that was seen, if there is one; one time in eight, and if there is none, its members are
-    /// taken from different teams. Moves that were seen and that no team has are completed by others of the species. A member whose maximum
-    /// the HP that the player saw rule out gets less experience for HP, and other DVs if it needs them.
+    /// taken from different teams. Moves that were seen and that no team has are completed by others of the species. If the HP
+    /// that the player saw rule out a member's maximum, the member gets less experience for HP, and other DVs if it needs them.
     ///
     /// # Errors
     ///
@@ -183,8 +183,8 @@ impl Prior {
     }
 }
 
-/// The member with a maximum that the HP that the player saw allow: unchanged, with less experience for HP, or with other DVs too. If no
-/// maximum is allowed, it stays unchanged.
+/// The member, changed so that its maximum fits the HP that the player saw: with less experience for HP, or with other DVs too. It stays
+/// unchanged if its maximum fits already, or if none does.
 fn allowed(spec: MemberSpec, seen: &Seen, player: &Player) -> MemberSpec {
     let is_allowed = |spec: &MemberSpec| {
         let team = Team::new(core::slice::from_ref(spec));
