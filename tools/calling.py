@@ -2,7 +2,8 @@
 
 The documents are README.md, docs/PROVED.md and crates/*/CALLING.md. A document shows one of two things after a line with its mark:
 
-    <!-- calling: NAME -->      an example: a part of crates/uses/src or of crates/gen1_c/src/the_theorem.rt, as a fenced block;
+    <!-- calling: NAME -->      an example: a part of crates/uses/src, of crates/gen1_c/src/the_theorem.rt or of the
+                                tests of crates/uses (rust/gen1-tests/tests/uses.rs), as a fenced block;
                                 after `NAME:` may be the names of the functions and types that are shown of it
     <!-- laws: CRATE .. -->     the laws of crates, each with the first paragraph of its `///` comment, up to a line `<!-- end -->`
 
@@ -86,6 +87,7 @@ def parts():
     files = [
         *sorted((ROOT / "crates" / "uses" / "src").rglob("*.rt")),
         ROOT / "crates" / "gen1_c" / "src" / "the_theorem.rt",
+        ROOT / "rust" / "gen1-tests" / "tests" / "uses.rs",
     ]
     for file in files:
         for name, text in parts_of(file):

@@ -99,7 +99,7 @@ class Source:
 
     def head_around(self):
         """The sections that the head of the module cites whose folder contains the file."""
-        around = self.file.parent.with_suffix(".rt")
+        around = self.file.parent.with_suffix(self.file.suffix)
         return Source(around).head if around.is_file() else []
 
     def sections_of(self, comment):

@@ -34,9 +34,8 @@ def counted():
     yield "wrong bodies that every gate tries", sum(len(edits(name)) for name in crates())
     yield "named wrong bodies, tried by some of these", len(named_bodies())
     yield "planted wrong bodies", sum(len(edits(name, "planted")) for name in crates())
-    yield "tests in the crates", sum(
-        file.read_text().count("#[test]") for file in (ROOT / "crates").glob("*/src/**/*.rt")
-    )
+    tests = [*(ROOT / "crates").glob("*/src/**/*.rt"), *(ROOT / "rust" / "gen1-tests" / "tests").rglob("*.rs")]
+    yield "tests of the crates", sum(file.read_text().count("#[test]") for file in tests)
 
 
 def table(rows):

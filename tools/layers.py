@@ -18,7 +18,7 @@ LAYERS = (
     (
         "Tests and examples",
         "no crate of the product depends on these",
-        ("uses", "test_support", "test_data", "test_operations", "test_engine", "test_players", "test_commands"),
+        ("uses", "test_support", "test_callers", "test_commands"),
     ),
     (
         "Programs and C",

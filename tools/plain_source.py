@@ -7,13 +7,12 @@ import re
 from plain_tokens import Unknown, partners, tokens_of
 
 DERIVES = {"Clone", "Copy", "Debug", "Default", "PartialEq", "Eq", "PartialOrd", "Ord", "Hash"}
-ATTRIBUTES = {"inline", "repr", "test", "cfg", "unsafe", "default", "error", "must_use", "cold"}
+ATTRIBUTES = {"inline", "repr", "unsafe", "default", "error", "must_use", "cold"}
 MACROS = {
     "assert",
     "assert_eq",
     "assert_ne",
     "debug_assert",
-    "format_in",
     "macro_rules",
     "matches",
     "unreachable",
@@ -55,8 +54,6 @@ IN_ADAPTER = {
     "std::io::Write": "gen1_adapter::io::Write",
     "std::marker::Brand": "gen1_adapter::marker::Brand",
     "std::marker::PhantomData": "core::marker::PhantomData",
-    "std::process::Abort": "gen1_adapter::testing::Abort",
-    "std::test::Fail": "gen1_adapter::testing::Fail",
 }
 PROOFS_ALONE = {"std::marker::Model"}
 
@@ -319,25 +316,6 @@ def take_drop_bounds(source):
     source.refresh()
 
 
-def take_runtime(source):
-    """Tests of the kit take arguments that may end the process and that allocate; the adapter has both."""
-    for place in source.find("( rt : HostRuntime )"):
-        source.drop(place + 1, place + 3)
-        body = source.next_at(place, "{")
-        gap = source.tokens[source.code[body].place + 1]
-        gap.text = " let rt = gen1_adapter::testing::HostRuntime;" + gap.text
-    for place in source.find("( _rt : HostRuntime )"):
-        source.drop(place + 1, place + 3)
-    for place in source.find("( rt ;"):
-        source.drop_word(place + 1, place + 2)
-    for place in source.find(". expect (  rt ,") + source.find(". expect ( & rt ,"):
-        source.drop_word(place + 3, source.next_at(place, ","))
-    for place in source.find("format ! ( in"):
-        source.code[place].text = "gen1_adapter::format_in"
-        source.drop(place + 3, place + 3)
-    source.refresh()
-
-
 def parts_of(source, first, last):
     """The leaves of a tree of `use`, each as its path and its other name, or ''."""
     leaves, begin, depth = [], first, 0
@@ -445,7 +423,7 @@ def check_macros(source):
         opening, depth = place + 1, 0
         for token in source.code[opening : source.ends[opening]]:
             depth += {"(": 1, "[": 1, "{": 1, ")": -1, "]": -1, "}": -1}.get(token.text, 0)
-            if depth == 1 and token.text == ";" and name not in ("macro_rules", "format_in", "bitflag_items"):
+            if depth == 1 and token.text == ";" and name not in ("macro_rules", "bitflag_items"):
                 source.fail(token, f"a call of {name}! of the kit's form")
 
 
@@ -524,7 +502,6 @@ PASSES = (
     take_proved,
     take_labels,
     take_drop_bounds,
-    take_runtime,
     take_uses,
     take_paths,
     take_prelude,

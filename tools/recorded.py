@@ -1,8 +1,7 @@
 """Tests of whole recorded battles (docs/PROOFS.md, "Recorded battles"), and the recorded battles of docs/DIFFERENCES.md.
 
-Each battle of BATTLES, a line of traces.jsonl of tests/battles, is a row of crates/test_engine/src/recorded_battles.rt: its teams, and for
-each update the pair of choices, the recorded log and all 384 bytes. crates/test_engine/src/recorded.rt plays them. Run `rt fmt` in
-crates/test_engine after they are written.
+Each battle of BATTLES, a line of traces.jsonl of tests/battles, is a row of recorded_battles.rs in rust/gen1-tests/tests/engine: its
+teams, and for each update the pair of choices, the recorded log and all 384 bytes. recorded.rs there plays them.
 
 A line of examples/differences.jsonl with a key "recorded", such as "corners 251, update 4", is the recorded battle of that line of that
 file, up to and with that update (tests/battles/README.md). Its lines are those of the recorded log, as tests/log_lines.py writes them. For
@@ -21,7 +20,7 @@ from repository import ROOT
 # The numbers of the lines, from 0.
 BATTLES = (17, 28, 50)
 
-FILE = ROOT / "crates" / "test_engine" / "src" / "recorded_battles.rt"
+FILE = ROOT / "rust" / "gen1-tests" / "tests" / "engine" / "recorded_battles.rs"
 
 DIFFERENCES = ROOT / "examples" / "differences.jsonl"
 UPDATE = re.compile(r"(corners|traces) (\d+), update (\d+)")
@@ -32,7 +31,6 @@ HEAD = """//! Recorded battles. Made by tools/gen.
 use crate::recorded::{Recorded, Update};
 
 """
-# A static is proved at less cost than a constant.
 TABLE = "pub(crate) static BATTLES: [Recorded; %d] = [\n%s];\n"
 
 
@@ -77,7 +75,7 @@ def row(battle):
 
 
 def laid_out(text):
-    """The text without what `rt fmt` may change."""
+    """The text without what rustfmt may change."""
     return re.sub(r",(?=[\])])", "", re.sub(r"\s", "", text))
 
 

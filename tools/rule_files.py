@@ -94,12 +94,14 @@ class Rules:
                     names = source.sections_of(source.comment_above(at))
                     self.add(names, Item(kind, file, at + 1, found[1], source.documented(at)))
 
-    def tests(self, crate):
-        for file in sorted((crate / "src").rglob("*.rt")):
+    def tests(self):
+        """Tests of the crates: those within them, and those that play the plain sources."""
+        crates_tests = (ROOT / "crates").glob("*/src/**/*.rt")
+        for file in sorted([*crates_tests, *(ROOT / "rust" / "gen1-tests" / "tests").rglob("*.rs")]):
             source = Source(file)
             for at, line in enumerate(source.lines):
                 if line.strip() == "#[test]":
-                    name = FUNCTION.match(source.lines[at + 1])[1]
+                    name = next(found[1] for below in source.lines[at + 1 :] if (found := FUNCTION.match(below)))
                     self.add(source.own(at), Item("tests", file, at + 2, name, source.documented(at)))
 
     def examples(self):
@@ -153,8 +155,8 @@ def engine_crates():
 def collected():
     """The rules of the repository."""
     rules = Rules()
+    rules.tests()
     for name in crates():
-        rules.tests(ROOT / "crates" / name)
         for folder in ("must-fail", "planted"):
             rules.edits(name, folder)
     for crate in engine_crates():

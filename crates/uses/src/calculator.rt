@@ -60,36 +60,3 @@ fn taking_all(hp: u16, damages: &[u16; 39]) -> usize
     damages.iter().filter(|damage| **damage >= hp).count()
 }
 // end
-
-#[cfg(test)]
-mod tests {
-    use super::*;
-    use crate::testing::{assert_same, member};
-    use std::test::Fail;
-
-    // From an independent program. Oddish has 151 HP; 90 of 100 are 229 of 255; Dugtrio's base Speed is 120.
-    #[test]
-    fn dugtrio_uses_blizzard(rt: HostRuntime) -> Result<(), Fail> {
-        let blizzard = MoveId::from_name("Blizzard").ok_or("no such move")?;
-        let exp = [65535, 65535, 28425, 51341, 65535];
-        let dugtrio = member("Dugtrio", 69, [0, 7, 6, 1], exp, &["Hyper Beam"])?;
-        let oddish = member("Oddish", 50, [15; 4], [65535; 5], &["Bubble"])?;
-        let battle = face_off(dugtrio, oddish)?;
-        let expected = Calculation {
-            damages: [
-                139, 140, 140, 141, 142, 142, 143, 144, 144, 145, 145, 146, 147, 147, 148, 149,
-                149, 150, 151, 151, 152, 153, 153, 154, 154, 155, 156, 156, 157, 158, 158, 159,
-                160, 160, 161, 162, 162, 163, 164,
-            ],
-            knock_outs: 21,
-            hits: 229,
-            criticals: 60,
-        };
-        assert_same(
-            &rt,
-            calculate(&battle, Side::One, blizzard, false),
-            Some(expected),
-        );
-        Ok(())
-    }
-}

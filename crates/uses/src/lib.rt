@@ -5,13 +5,10 @@
 //! - `the_theorem`: every call of a battle, and what is proved of it
 //! - `two_players`: two players in a room
 //! - `viewer`: a replay viewer
-//! - `testing`: what their tests share
 #![tactic(auto)]
 
 pub mod calculator;
 pub mod player;
-#[cfg(test)]
-mod testing;
 pub mod the_theorem;
 pub mod two_players;
 pub mod viewer;

@@ -146,7 +146,7 @@ def test_what_a_refusal_says():
 
 
 def test_a_battle_that_is_over_takes_nothing():
-    """As crates/test_players has it: side 1 wins in the second turn."""
+    """As rust/gen1-tests/tests/players has it: side 1 wins in the second turn."""
     room = two_tauros()
     for pair in (0, 1):
         room.submit(Side.ONE, pair, Choice.MOVE_1)

@@ -94,7 +94,7 @@ def test_random_battles():
         assert other == spectator
 
 
-# Single events, as in docs/MECHANICS.md, "Spectator's view", and in crates/test_data.
+# Single events, as in docs/MECHANICS.md, "Spectator's view", and in rust/gen1-tests/tests/players.
 
 
 def test_before_the_start():

@@ -1,62 +1,62 @@
-//! What the tests of the proved sources are passed, where Rust's tests are passed nothing.
-pub use gen1::adapter::{alloc, bitflags, io, marker, prelude};
+//! What the tests of this package share: the examples of the `CALLING.md` files, and a reader and a writer that fail at a
+//! chosen call.
+use std::io::{self, Read, Write};
 
-pub mod testing {
-    //! The arguments that the kit passes to a test. Rust passes none.
-    use gen1::adapter::alloc::{AllocError, Allocator, Global};
-    use gen1::adapter::prelude::{String, Vec};
-    use std::fmt;
+#[rustfmt::skip]
+#[allow(missing_docs, missing_debug_implementations, clippy::all)]
+pub mod uses;
 
-    /// Permission to end the process. In Rust any function may.
-    pub trait Abort {}
+/// A writer whose write number `left`, counted from 0, fails: by an error, or by taking nothing.
+#[derive(Debug)]
+pub struct Failing<'a> {
+    /// How many writes succeed.
+    pub left: usize,
+    /// Whether the failing write takes nothing, instead of returning an error.
+    pub takes_nothing: bool,
+    /// The most bytes that it takes in one write.
+    pub most: usize,
+    /// Where the bytes that it takes go.
+    pub bytes: &'a mut Vec<u8>,
+}
 
-    /// The argument that the kit passes to a test.
-    #[derive(Clone, Copy, Debug)]
-    pub struct HostRuntime;
-
-    impl Abort for HostRuntime {}
-
-    impl HostRuntime {
-        /// The allocator.
-        pub fn alloc(&self) -> Global {
-            Global
+impl Write for Failing<'_> {
+    fn write(&mut self, bytes: &[u8]) -> io::Result<usize> {
+        if self.left == 0 {
+            return if self.takes_nothing {
+                Ok(0)
+            } else {
+                Err(io::ErrorKind::BrokenPipe.into())
+            };
         }
+        self.left -= 1;
+        let count = bytes.len().min(self.most);
+        self.bytes.extend_from_slice(&bytes[..count]);
+        Ok(count)
     }
 
-    /// Why a test failed: any value that can be displayed.
-    pub struct Fail(std::string::String);
+    fn flush(&mut self) -> io::Result<()> {
+        Ok(())
+    }
+}
 
-    impl fmt::Debug for Fail {
-        fn fmt(&self, f: &mut fmt::Formatter<'_>) -> fmt::Result {
-            f.write_str(&self.0)
+/// A reader whose read number `left`, counted from 0, fails.
+#[derive(Debug)]
+pub struct Broken<'a> {
+    /// How many reads succeed.
+    pub left: usize,
+    /// The most bytes that it returns in one read.
+    pub most: usize,
+    /// The bytes that it has not returned yet.
+    pub bytes: &'a [u8],
+}
+
+impl Read for Broken<'_> {
+    fn read(&mut self, bytes: &mut [u8]) -> io::Result<usize> {
+        if self.left == 0 {
+            return Err(io::ErrorKind::Other.into());
         }
-    }
-
-    impl<T: fmt::Display> From<T> for Fail {
-        fn from(why: T) -> Self {
-            Fail(why.to_string())
-        }
-    }
-
-    /// A formatted string, or an error if memory runs out, where Rust's `format!` ends the process.
-    ///
-    /// # Errors
-    ///
-    /// Out of memory.
-    pub fn format_in<A: Allocator>(
-        allocator: A,
-        arguments: fmt::Arguments<'_>,
-    ) -> Result<String<A>, AllocError> {
-        let mut bytes = Vec::new(allocator);
-        bytes.extend_from_slice(arguments.to_string().as_bytes())?;
-        String::from_utf8(bytes).map_err(|_| AllocError)
-    }
-
-    /// A text in memory of an allocator.
-    #[macro_export]
-    macro_rules! format_in {
-        ($allocator:expr; $($argument:tt)*) => {
-            $crate::testing::format_in($allocator, format_args!($($argument)*))
-        };
+        self.left -= 1;
+        let count = bytes.len().min(self.most);
+        self.bytes.read(&mut bytes[..count])
     }
 }

@@ -1,6 +1,0 @@
-use Rattle.std.proofs.Common.{arith}
-use Rattle.test_operations.proofs.Draws.{countdown_is_stream}
-use Rattle.test_operations.proofs.countdown.step.Goals as goal
-
-pub returns-clause-stream : goal.returns-clause-stream
-returns-clause-stream c = countdown_is_stream c.args.number (omega arith)

@@ -1,0 +1,26 @@
+//! Tests of `gen1_spectator`, `gen1_player` and `gen1_room`, through their public functions: what a spectator sees, what a player
+//! knows, and how a room passes choices on.
+//!
+//! - `battles`: views and bytes of whole battles
+//! - `views`: what each event changes of a spectator's view
+//! - `following`: a view that follows log bytes
+//! - `hosts`: tables
+//! - `own_sides`: what a side is shown of itself
+//! - `public`: what each event makes public
+//! - `players`: what a player knows
+//! - `rooms`: rooms
+//! - `plain_rooms`: rooms that their caller keeps, and forfeits
+//! - `teams`: the teams of these tests
+//! - `events`: events in plain numbers
+
+mod battles;
+mod events;
+mod following;
+mod hosts;
+mod own_sides;
+mod plain_rooms;
+mod players;
+mod public;
+mod rooms;
+mod teams;
+mod views;
