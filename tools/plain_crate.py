@@ -1,7 +1,7 @@
 """The libraries of crates/ as modules of one crate of plain Rust.
 
-Each library becomes one file: its modules are nested in it as they are in crates/NAME/src. Paths between libraries become paths
-within the crate. Contracts, ghost code and laws are off (tools/plain_source.py). At the end of this file are hints on inlining for
+They are one file, in which each library is a module. Its own modules are nested in it as they are in crates/NAME/src. Paths between
+libraries become paths within the crate. Contracts, ghost code and laws are off (tools/plain_source.py). At the end of this file are hints on inlining for
 this build alone (docs/SPEED.md, "Hints on inlining"); those that were tried in the proved build cost instructions there.
 """
 import re
@@ -40,17 +40,16 @@ def generated():
     modules = [name for name, _, is_for_c in listed() if name.startswith("gen1_") and not is_for_c]
     inside = {name: f"crate::generated::{short(name)}" for name in modules} | {"gen1_adapter": "crate::adapter"}
     outside = {name: f"gen1::generated::{short(name)}" for name in modules}
-    folder, files = RUST / "gen1" / "src" / "generated", {}
+    texts, files = {"names": constants()}, {}
     for name, library in libraries.items():
         if name in modules:
-            files[folder / f"{short(name)}.rs"] = hinted(name, library.whole(inside, inside[name]))
+            texts[short(name)] = hinted(name, library.whole(inside, inside[name]))
         else:
             place, own = (RUST / "gen1-ffi" / "src" / "generated.rs", "crate::generated") if name == "gen1_c" else USES
             files[place] = library.whole(outside | {"gen1_adapter": "gen1::adapter"}, own)
-    files[folder / "mod.rs"] = MODULES + "".join(
-        f"pub mod {short(name)};\n" for name in sorted([*modules, "gen1_names"])
+    files[RUST / "gen1" / "src" / "generated.rs"] = MODULES + "\n".join(
+        f"pub mod {name} {{\n{indented(text.rstrip(), name, 4)}\n}}\n" for name, text in sorted(texts.items())
     )
-    files[folder / "names.rs"] = constants()
     return {**unwanted(files), **files}
 
 
