@@ -3,27 +3,21 @@
 //! docs/TEAM_TEXT.md and docs/LAYOUT.md.
 //!
 //! - `tables`: rows of each table
-//! - `draws`: worked draws
 //! - `teams`: worked stats, and refusals
 //! - `export_texts`: export texts
 //! - `packed_lines`: packed lines, and teams written as text
-//! - `values`: ranges, bytes and numbers of gen1_machine, and devices that fail
-//! - `fields`: each reader and writer of the 384 bytes
-//! - `readers`: members by their places, and several conditions
+//! - `values`: ranges, bytes, draws and numbers, and devices that fail
+//! - `fields`: each reader and writer of the 384 bytes, and members by their places
 //! - `loading`: each field at the ends of its range, and past them
 //! - `states`: plain states, and their fields at the ends of their ranges
-//! - `comparing`: what the tests compare
-//! - `tauros`: the member of the tests of bytes
+//! - `comparing`: what the tests compare, and the member of the tests of bytes
 
 mod comparing;
-mod draws;
 mod export_texts;
 mod fields;
 mod loading;
 mod packed_lines;
-mod readers;
 mod states;
 mod tables;
-mod tauros;
 mod teams;
 mod values;

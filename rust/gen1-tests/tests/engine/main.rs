@@ -2,8 +2,7 @@
 //! their public functions. Most are rows: tables of battles and calls that a few functions play.
 //!
 //! - `rows`: what a row is, and how it is played
-//! - `switching_in`: members that come out
-//! - `falls`: the end of an update
+//! - `switching_in`: members that come out, and the end of an update
 //! - `choices`: what may be chosen
 //! - `turns`: whole turns
 //! - `actions`: actions of one side
@@ -12,19 +11,16 @@
 //! - `battles`: the calls of a battle
 //! - `replays`: a run that is replayed to writers, also to some that fail
 //! - `events`: codes, cuts and errors of log bytes
-//! - `lines`: lines, cuts and errors
-//! - `sentences`: sentences for a spectator and for a side
+//! - `lines`: lines, cuts and errors, and sentences for a spectator and for a side
 
 mod actions;
 mod battles;
 mod choices;
 mod events;
-mod falls;
 mod lines;
 mod recorded;
 mod recorded_battles;
 mod replays;
 mod rows;
-mod sentences;
 mod switching_in;
 mod turns;

@@ -13,8 +13,7 @@
 //! - `lasting_moves`: moves that last several turns
 //! - `own_damage`: Counter, fixed damage and one-hit moves
 //! - `hits`: all hits of a move, what follows them, and what follows a miss
-//! - `countdown`: the third generator
-//! - `worked_draws`: worked draws of a countdown, also of effects of moves
+//! - `countdown`: the third generator, and worked draws of it
 
 mod comparing;
 mod countdown;
@@ -29,4 +28,3 @@ mod own_damage;
 mod script;
 mod side_effects;
 mod status;
-mod worked_draws;

@@ -2,12 +2,10 @@
 //! knows, and how a room passes choices on.
 //!
 //! - `battles`: views and bytes of whole battles
-//! - `views`: what each event changes of a spectator's view
-//! - `following`: a view that follows log bytes
+//! - `views`: what each event changes of a spectator's view, and one that follows log bytes
 //! - `hosts`: tables
-//! - `own_sides`: what a side is shown of itself
 //! - `public`: what each event makes public
-//! - `players`: what a player knows
+//! - `players`: what a player knows, and what a side is shown of itself
 //! - `rooms`: rooms
 //! - `plain_rooms`: rooms that their caller keeps, and forfeits
 //! - `teams`: the teams of these tests
@@ -15,9 +13,7 @@
 
 mod battles;
 mod events;
-mod following;
 mod hosts;
-mod own_sides;
 mod plain_rooms;
 mod players;
 mod public;
