@@ -175,9 +175,8 @@ def first_updates():
 
 @pytest.fixture(scope="module")
 def lemma_names():
-    """The names of the worked examples that the two files have."""
-    folder = ROOT / "crates" / "test_support" / "proofs"
-    text = "".join((folder / name).read_text(encoding="utf-8") for name in ("WorkedCorners.antt", "WorkedEffects.antt"))
+    """The names of the worked examples of corners."""
+    text = (ROOT / "crates" / "test_support" / "proofs" / "WorkedCorners.antt").read_text(encoding="utf-8")
     return set(re.findall(r"(?m)^(\w+) :", text))
 
 

@@ -36,7 +36,7 @@ def homes():
 
 
 BUDGETS = {
-    "files in git": (lambda: len(files()), 2718),
+    "files in git": (lambda: len(files()), 2500),
     "kB of docs/*.md": (lambda: kilobytes(name for name in files() if re.fullmatch(r"docs/\w+\.md", name)), 300),
     "kB of Markdown": (lambda: kilobytes(name for name in files() if name.endswith(".md")), 480),
     "files in tools/": (lambda: len([name for name in files() if name.startswith("tools/")]), 45),

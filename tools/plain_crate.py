@@ -1,8 +1,8 @@
 """The libraries of crates/ as modules of one crate of plain Rust.
 
 They are one file, in which each library is a module. Its own modules are nested in it as they are in crates/NAME/src. Paths between
-libraries become paths within the crate. Contracts, ghost code and laws are off (tools/plain_source.py). At the end of this file are hints on inlining for
-this build alone (docs/SPEED.md, "Hints on inlining"); those that were tried in the proved build cost instructions there.
+libraries become paths within the crate. Contracts, ghost code and laws are off (tools/plain_source.py). At the end of this file are hints
+on inlining for this build alone (docs/SPEED.md, "Hints on inlining"); those that were tried in the proved build cost instructions there.
 """
 import re
 

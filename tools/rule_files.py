@@ -30,7 +30,7 @@ WITHOUT = {
         "definition": "none: clap reads the words, and the contract of `tool` says which statuses there are"
     },
     Section("include/gen1.h", "random teams"): {"tests": "tests/calls/test_teams.py, tests/c/hostile_texts.c"},
-    Section("include/gen1.h", "searching"): {"definition": "crates/gen1_engine/specs/Reseed.antt: reseeded"},
+    Section("include/gen1.h", "searching"): {"definition": "crates/gen1_engine/specs/Update.antt: reseeded"},
     Section("include/gen1.h", "watching"): {
         "definition": "crates/gen1_spectator/specs/Plain.antt: view_of, reading_of"
     },

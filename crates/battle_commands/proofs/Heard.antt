@@ -9,7 +9,7 @@ use Rattle.gen1_machine.specs.Room.{Course, Reply, after as follows, reply_to}
 use Rattle.gen1_devices.specs.Output.{AppendsFront}
 use Rattle.gen1_devices.proofs.OutputLemmas.{appends_front_after}
 use Rattle.gen1_room.specs.Rooms.{Holds, submission_at}
-use Rattle.gen1_room.specs.declared.held.Held.{Held}
+use Rattle.gen1_room.specs.declared.submission.Held.{Held}
 use Rattle.battle_commands.specs.Asked.{Answers, Due, after, only, replies_due, text_of_reply}
 use Rattle.battle_commands.specs.declared.fault.ToolFault.{ToolFault}
 use Rattle.battle_commands.specs.declared.fault.ToolFault.TheVariants.{Calc, Json, Log, Memory, Pair, Read, Team, TooLong, Write}

@@ -2,5 +2,4 @@
 pub mod Standing
 pub mod Heard
 pub mod Serving
-pub mod Replying
 mod WorkedWords

@@ -4,18 +4,18 @@ use Rattle.std.specs.Prelude.{◌≡◌, ℕ, List, Result, Ok, Err, None, Optio
 use Rattle.gen1_layout.specs.Shows.{Stands}
 use Rattle.battle_commands.specs.declared.fault.ToolFault.{ToolFault}
 use Rattle.battle_commands.specs.declared.fault.ToolFault.TheVariants.{Read, Write, Memory, Json, TooLong, Team, Pair}
-use Rattle.battle_commands.specs.declared.asked_battle.Bout.{Bout}
+use Rattle.battle_commands.specs.declared.input.Bout.{Bout}
 use Rattle.serde_json.specs.Data.{Data}
 use Rattle.gen1_stats.specs.Refusals.{number_of, place_of}
 use Rattle.gen1_stats.specs.Teams.{team_of, team_refusal}
-use Rattle.gen1_stats.specs.declared.refusal.TeamRefusal.{TeamRefusal}
+use Rattle.gen1_stats.specs.declared.team.TeamRefusal.{TeamRefusal}
 use Rattle.gen1_machine.specs.declared.side.Side.{Side}
 use Rattle.gen1_machine.specs.State.{State, first_state}
 use Rattle.battle_input.specs.Sheets.{BattleData, input_of, pair_of, sheet_of, submission_of}
 use Rattle.battle_input.specs.declared.fault.JsonFault.{JsonFault}
-use Rattle.battle_input.specs.declared.misfit.Key.{Key}
-use Rattle.battle_input.specs.declared.misfit.Key.TheVariants.{Choices, Submissions}
-use Rattle.battle_input.specs.declared.misfit.Misfit.{Misfit}
+use Rattle.battle_input.specs.declared.fault.Key.{Key}
+use Rattle.battle_input.specs.declared.fault.Key.TheVariants.{Choices, Submissions}
+use Rattle.battle_input.specs.declared.fault.Misfit.{Misfit}
 use Rattle.gen1_machine.specs.declared.event.Event.{Event}
 use Rattle.gen1_machine.specs.Lines.{lines, joined}
 use Rattle.gen1_machine.specs.LogBytes.{codes_of}

@@ -13,7 +13,7 @@ use Rattle.gen1_machine.specs.declared.side.Side.TheVariants.{One}
 use Rattle.gen1_hits.specs.DamageNumbers.{damages, has_usual_damage}
 use Rattle.battle_input.specs.Sheets.{input_of, calc_sheet_of}
 use Rattle.battle_commands.specs.Asked.{input_limit, unless}
-use Rattle.battle_input.specs.declared.calc_sheet.CalcSheet.{CalcSheet}
+use Rattle.battle_input.specs.declared.sheet.CalcSheet.{CalcSheet}
 use Rattle.battle_input.specs.declared.fault.JsonFault.{JsonFault}
 use Rattle.battle_commands.specs.declared.fault.ToolFault.{ToolFault}
 use Rattle.battle_commands.specs.declared.fault.ToolFault.TheVariants.{Calc, Json, Memory, Read, TooLong, Write}

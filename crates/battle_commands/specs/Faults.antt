@@ -1,16 +1,16 @@
 -- The exit status of each error, and what standard error gets of it (docs/PROGRAM.md, "Faults and statuses").
 use Rattle.std.specs.Prelude.{Bool, List, Option, option_and_then, ℕ, [], codes, decimal, ◌++◌, ◌∷◌, if◌then◌else◌, ◌==◌}
 use Rattle.gen1_devices.specs.Output.{device_inner}
-use Rattle.battle_commands.specs.declared.folder.Disk.{Disk}
+use Rattle.battle_commands.specs.declared.input.Disk.{Disk}
 use Rattle.gen1_machine.specs.Lines.{joined}
 use Rattle.battle_input.specs.declared.fault.SheetFault.{SheetFault}
 use Rattle.battle_input.specs.declared.fault.SheetFault.TheVariants.{Json as NoSheet, Memory as NoMemory}
 use Rattle.battle_commands.specs.declared.fault.ToolFault.{ToolFault}
 use Rattle.battle_commands.specs.declared.fault.ToolFault.TheVariants.{Json, TooLong, Team, Pair, Log, Calc, Read, Write, Memory}
-use Rattle.battle_input.specs.Misfits.{expected_text, path_text}
+use Rattle.battle_input.specs.Sheets.{expected_text, path_text}
 use Rattle.battle_input.specs.declared.fault.JsonFault.{JsonFault}
 use Rattle.battle_input.specs.declared.fault.JsonFault.TheVariants.{Text, Value}
-use Rattle.battle_input.specs.declared.misfit.Misfit.{Misfit}
+use Rattle.battle_input.specs.declared.fault.Misfit.{Misfit}
 
 abbrev pub disk_failed : {R F : Type 0} → Disk R F → Bool
 disk_failed d = d.has_failed

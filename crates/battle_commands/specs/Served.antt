@@ -6,7 +6,7 @@ use Rattle.gen1_devices.specs.Output.{AppendsFront, Sends}
 use Rattle.gen1_machine.specs.declared.event.Event.{Event}
 use Rattle.gen1_events.specs.Faults.{number_of}
 use Rattle.gen1_events.specs.Reader.{IsReading}
-use Rattle.gen1_events.specs.declared.fault.LogFault.{LogFault}
+use Rattle.gen1_events.specs.declared.reader.LogFault.{LogFault}
 use Rattle.gen1_printer.specs.Prints.{IsFaulty}
 use Rattle.battle_commands.specs.Asked.{input_limit, Answers, IsQuiet, Sent, Tells, log_due, run_due, room_due}
 use Rattle.battle_commands.specs.declared.fault.ToolFault.{ToolFault}

@@ -1,16 +1,15 @@
-//! The battle of an input, and what is done in it, as JSON (docs/PROGRAM.md, "Input", "JSON, to the letter").
+//! The battle of an input, and what is done in it or asked for, as JSON (docs/PROGRAM.md, "Input", "JSON, to the letter",
+//! "calc").
 ghost use Rattle.std.specs.Prelude.{IfOk, Result, ◌≡◌};
+ghost use Rattle.battle_input.specs.Sheets.{IsShort, mapped, name_of, Gives, battle_of, battle_view, byte_of, calc_sheet_of, field_of, input_of, json_of, limit_numbered, limit_of, list_of, long_of, member_of, move_name_of, move_of, moves_of, numbers_of, of_value, or_expected, pair_of, rules_numbered, rules_of, sheet_of, sheet_view, side_of, species_of, submission_of, truth_of, word_of};
+ghost use Rattle.battle_input.specs.declared.fault.Expected.TheVariants as expectations;
+ghost use Rattle.battle_input.specs.declared.fault.Key.TheVariants as keys;
+ghost use Rattle.battle_input.specs.declared.fault.Misfit.{Misfit as AMisfit};
 ghost use Rattle.serde_json.specs.Data.{Data};
 ghost use Rattle.serde_json.specs.Find.{get};
 ghost use Rattle.serde_json.specs.View.{view};
-ghost use Rattle.battle_input.specs.Misfits.{IsShort, mapped, name_of};
-ghost use Rattle.battle_input.specs.Sheets.{Gives, battle_of, battle_view, byte_of, field_of, input_of, json_of, limit_numbered, limit_of, list_of, long_of, member_of, move_name_of, move_of, moves_of, numbers_of, of_value, or_expected, pair_of, rules_numbered, rules_of, sheet_of, sheet_view, side_of, species_of, submission_of, word_of};
-ghost use Rattle.battle_input.specs.declared.misfit.Expected.TheVariants as expectations;
-ghost use Rattle.battle_input.specs.declared.misfit.Key.TheVariants as keys;
-ghost use Rattle.battle_input.specs.declared.misfit.Misfit.{Misfit as AMisfit};
 
-use crate::fault::SheetFault;
-use crate::misfit::{Expected, Key, Misfit, Step, behind};
+use crate::fault::{Expected, Key, Misfit, SheetFault, Step, behind};
 use crate::no_json::no_json;
 use arrayvec::ArrayVec;
 use gen1_machine::{Rules, Side, TurnLimit};
@@ -176,7 +175,7 @@ fn read_species(value: &Value) -> Result<Species, Misfit>
     }
 }
 
-pub(crate) fn read_move_name(value: &Value) -> Result<MoveId, Misfit>
+fn read_move_name(value: &Value) -> Result<MoveId, Misfit>
     ensures value { result ≡ move_name_of (view value.now) }
     ensures short { IsShort 0 result }
 {
@@ -224,7 +223,7 @@ fn read_moves(value: &Value) -> Result<ArrayVec<(MoveId, u8), 4>, Misfit>
 }
 
 /// The value under a key.
-pub(crate) fn value_at(value: &Value, key: Key) -> Result<&Value, Misfit>
+fn value_at(value: &Value, key: Key) -> Result<&Value, Misfit>
     ensures value { mapped (λ v. view v.now) result
         ≡ or_expected (expectations.With key) (get (name_of key) (view value.now)) }
     ensures short { IsShort 0 result }
@@ -422,4 +421,48 @@ pub fn read_sheet<T: Item + Drop>(
     let battle = read_battle(alloc, &value)?;
     let items = read_list_at(alloc, &value, key)??;
     Ok(Sheet { battle, items })
+}
+
+/// What the input asks `calc` for (docs/PROGRAM.md, "calc"), before any test of the members and the move.
+#[derive(Debug, Drop)]
+pub struct CalcSheet {
+    pub attacker: MemberSpec,
+    pub defender: MemberSpec,
+    pub id: MoveId,
+    pub critical: bool,
+}
+
+/// Reads the sheet of a JSON value.
+///
+/// # Errors
+///
+/// The first place at which the value is not as expected: a key is missing, a member does not have its shape, a name is unknown, or
+/// `critical` is not a truth value.
+pub fn read_calc_sheet(value: &Value) -> Result<CalcSheet, Misfit>
+    ensures { result ≡ calc_sheet_of (view value.now) }
+{
+    let attacker = value_at(value, Key::Attacker)?;
+    let attacker = behind(Step::Of(Key::Attacker), read_member(attacker))?;
+    let defender = value_at(value, Key::Defender)?;
+    let defender = behind(Step::Of(Key::Defender), read_member(defender))?;
+    let id = value_at(value, Key::Move)?;
+    let id = behind(Step::Of(Key::Move), read_move_name(id))?;
+    let critical = value_at(value, Key::Critical)?;
+    let critical = behind(Step::Of(Key::Critical), read_truth(critical))?;
+    Ok(CalcSheet {
+        attacker,
+        defender,
+        id,
+        critical,
+    })
+}
+
+fn read_truth(value: &Value) -> Result<bool, Misfit>
+    ensures value { result ≡ truth_of (view value.now) }
+    ensures short { IsShort 0 result }
+{
+    match value.as_bool() {
+        Some(truth) => Ok(truth),
+        None => Err(Misfit::here(Expected::Truth)),
+    }
 }

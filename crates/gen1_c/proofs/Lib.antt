@@ -1,5 +1,3 @@
--- A struct that is made of members describes these members.
-pub mod WrittenTeams
 -- The log of an update, and what an update returned.
 pub mod Updates
 -- A list of outcomes.

@@ -1,12 +1,12 @@
 -- A list of outcomes, by what the step says of the pair.
 use Rattle.std.proofs.Common.{Some, arith, ℕ, ◌+◌, ◌≡◌, Bool, IfSome, None, Ok, Option, Result, false, refl, subst, true}
-use Rattle.gen1_machine.specs.declared.choice.Choice.{Choice}
+use Rattle.gen1_machine.specs.declared.side.Choice.{Choice}
 use Rattle.gen1_machine.specs.State.{State, is_over}
 use Rattle.gen1_machine.specs.Step.{Accepted, Answer, Refused, answered, opened, update}
 use Rattle.gen1_layout.specs.Parts.{Parts}
-use Rattle.gen1_engine.specs.Replay.{choices_at, both, offers_if, or_pass, step_by_bytes}
-use Rattle.gen1_engine.specs.Update.{refusal_number, refusal_of, AreOffered}
-use Rattle.gen1_outcomes.specs.declared.options.OutcomeOptions.{OutcomeOptions}
+use Rattle.gen1_engine.specs.Replay.{both, choices_at, offers_if, or_pass, step_by_bytes}
+use Rattle.gen1_engine.specs.Update.{AreOffered, refusal_number, refusal_of}
+use Rattle.gen1_outcomes.specs.declared.successor.OutcomeOptions.{OutcomeOptions}
 use Rattle.gen1_c.specs.declared.outcomes.OutcomeList.{OutcomeList}
 use Rattle.gen1_c.specs.Outcomes.{AreListed, Arrays, ListsAs, refusal_due, Offers}
 use Rattle.gen1_c.specs.Battle.{AnsweredAs}
@@ -14,7 +14,7 @@ use Rattle.gen1_machine.specs.declared.side.Side.TheVariants.{One, Two}
 use Rattle.gen1_machine.specs.Choices.{choice_at}
 use Rattle.gen1_machine.specs.Progress.{Progress}
 use Rattle.gen1_machine.specs.Ruling.{ruling_of}
-use Rattle.gen1_outcomes.specs.declared.fault.OutcomesFault.{OutcomesFault}
+use Rattle.gen1_outcomes.specs.declared.successor.OutcomesFault.{OutcomesFault}
 use Rattle.gen1_outcomes.specs.declared.nodes.Chance.{Chance}
 
 pub code_answered : (answer : Answer) (next : State) (old new : Parts) (code : ℕ) → AnsweredAs answer next old new code → code ≡ refusal_due answer

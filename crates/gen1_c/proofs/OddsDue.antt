@@ -13,7 +13,7 @@ use Rattle.gen1_layout.specs.Parts.{Parts}
 use Rattle.gen1_layout.specs.Shows.{Stands, Within, setting_of}
 use Rattle.gen1_layout.proofs.Storing.{within_of}
 use Rattle.gen1_c.specs.Odds.{TellsDamages, damages_due, due_of, use_due, Tells}
-use Rattle.gen1_machine.specs.declared.choice.Choice.TheVariants.{Pass}
+use Rattle.gen1_machine.specs.declared.side.Choice.TheVariants.{Pass}
 use Rattle.gen1_machine.specs.Rules.{Rules}
 use Rattle.gen1_machine.specs.Step.{Accepted, Answer, Refused, step, Stepped}
 use Rattle.gen1_machine.proofs.Fallen.{Standing}

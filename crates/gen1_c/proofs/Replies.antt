@@ -8,21 +8,21 @@ use Rattle.gen1_machine.specs.declared.terms.Outcome.TheVariants as outcomes
 use Rattle.gen1_machine.specs.State.{State}
 use Rattle.gen1_machine.specs.Valid.{IsOutcome, IsState}
 use Rattle.gen1_machine.specs.Room.{Course, Reply, TurnedAway}
-use Rattle.gen1_room.specs.declared.reply.RoomRefusal.{RoomRefusal}
-use Rattle.gen1_room.specs.declared.reply.RoomRefusal.TheVariants as whys
-use Rattle.gen1_room.specs.declared.reply.Submitted.{Submitted}
-use Rattle.gen1_room.specs.declared.reply.Submitted.TheVariants as submitted
+use Rattle.gen1_room.specs.declared.submission.RoomRefusal.{RoomRefusal}
+use Rattle.gen1_room.specs.declared.submission.RoomRefusal.TheVariants as whys
+use Rattle.gen1_room.specs.declared.submission.Submitted.{Submitted}
+use Rattle.gen1_room.specs.declared.submission.Submitted.TheVariants as submitted
 use Rattle.gen1_engine.specs.declared.result.BattleResult.{BattleResult}
 use Rattle.gen1_room.specs.Forfeits.{ForfeitsAs as Forfeits}
 use Rattle.gen1_room.specs.declared.plain.PlainRoom.{PlainRoom}
 use Rattle.gen1_room.specs.Rooms.{reply_of_submitted, why_of}
 use Rattle.gen1_engine.specs.Update.{result_of}
-use Rattle.gen1_host.specs.declared.reply.HostRefusal.{HostRefusal}
-use Rattle.gen1_host.specs.declared.reply.Replied.{Replied}
-use Rattle.gen1_host.specs.declared.reply.Replied.TheVariants as replied
-use Rattle.gen1_host.specs.declared.row.Row.{Row as PlainRow}
+use Rattle.gen1_host.specs.declared.host.HostRefusal.{HostRefusal}
+use Rattle.gen1_host.specs.declared.host.Replied.{Replied}
+use Rattle.gen1_host.specs.declared.host.Replied.TheVariants as replied
+use Rattle.gen1_host.specs.declared.submission.Row.{Row as PlainRow}
 use Rattle.gen1_host.specs.Hosts.{result_at, result_by, row_at}
-use Rattle.gen1_host.specs.Replies.{reply_of_taken, why_of as host_why_of}
+use Rattle.gen1_host.specs.Messages.{reply_of_taken, why_of as host_why_of}
 use Rattle.gen1_host.specs.Table.{Agreed, Ending, Forfeited, HostReply, Refused, Row, Table}
 use Rattle.gen1_c.specs.Hosts.{reply_code as host_reply_code, why_code as host_why_code}
 use Rattle.gen1_c.specs.Rooms.{ForfeitsAs, reply_code, why_code}

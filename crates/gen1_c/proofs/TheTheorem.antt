@@ -3,7 +3,7 @@ use Rattle.std.proofs.Common.{Bool, Err, List, None, Ok, Option, Result, Some, [
 use Rattle.std.proofs.lemmas.List.{drop_all, get_or-map, length-map, take_all, take_at, take_more_set}
 use Rattle.gen1_stats.specs.Members.{IsTeam, Member}
 use Rattle.gen1_stats.specs.Teams.{Sheet, least_sheet, member_of, team_of}
-use Rattle.gen1_machine.specs.declared.choice.Choice.{Choice}
+use Rattle.gen1_machine.specs.declared.side.Choice.{Choice}
 use Rattle.gen1_machine.specs.declared.event.Event.{Event}
 use Rattle.gen1_machine.specs.declared.side.Side.{Side}
 use Rattle.gen1_machine.specs.declared.side.Side.TheVariants.{One, Two}
@@ -26,7 +26,7 @@ use Rattle.gen1_layout.specs.Shows.{Stands}
 use Rattle.gen1_layout.proofs.WaysBack.{parts-bytes_of}
 use Rattle.gen1_engine.specs.Replay.{offers_if, or_pass, step_by_bytes}
 use Rattle.gen1_engine.proofs.Played.{step_of_choices, accepted_offered}
-use Rattle.gen1_spectator.specs.Following.{AreRead, joined}
+use Rattle.gen1_spectator.specs.Plain.{AreRead, joined}
 use Rattle.gen1_c.specs.Battle.{Loads, LoadsAs, teams_fault, Held, Logs, Offers, UpdatesAs, result_byte}
 use Rattle.gen1_c.specs.Codes.{over_front}
 use Rattle.gen1_c.specs.TheTheorem.{IsLogged, after, called, calls_in, code_of, log_in, log_of, logs_in, stepped}

@@ -5,22 +5,21 @@ use Rattle.gen1_machine.specs.State.{State, is_over}
 use Rattle.gen1_layout.specs.LoadingLaws.{StandsForSome}
 use Rattle.gen1_layout.specs.Parts.{Parts}
 use Rattle.gen1_layout.specs.Shows.{Stands}
-use Rattle.gen1_engine.specs.OfferedMask.{offered_mask}
+use Rattle.gen1_engine.specs.Update.{offered_mask, refusal_of}
 use Rattle.gen1_engine.specs.Replay.{step_by_bytes}
 use Rattle.gen1_c.specs.Battle.{AnsweredAs, IsResult, result_byte}
-use Rattle.gen1_c.specs.declared.batches.BatchUpdate.{BatchUpdate}
+use Rattle.gen1_c.specs.declared.many_battles.BatchUpdate.{BatchUpdate}
 use Rattle.gen1_machine.specs.Choices.{byte_of_choice, choice_at}
 use Rattle.gen1_machine.specs.declared.side.Side.TheVariants.{One, Two}
 use Rattle.gen1_machine.specs.OfferedChoices.{offered}
 use Rattle.gen1_machine.specs.Step.{Over}
-use Rattle.gen1_engine.specs.Update.{refusal_of}
 use Rattle.gen1_c.specs.Codes.{refusal_code, load_code}
 use Rattle.gen1_playouts.specs.Playouts.{Playout, begun, choice_by, next_state, play_on, PlaysOut}
 use Rattle.gen1_layout.specs.Loading.{IsLoadedAs}
 use Rattle.gen1_layout.specs.declared.loading.LoadFault.{LoadFault}
 use Rattle.gen1_playouts.specs.declared.playouts.PlayoutOptions.{PlayoutOptions}
 use Rattle.gen1_playouts.specs.declared.playouts.Playouts.{Playouts}
-use Rattle.gen1_c.specs.declared.playouts.PlayoutForm.{PlayoutForm}
+use Rattle.gen1_c.specs.declared.many_battles.PlayoutForm.{PlayoutForm}
 
 -- the mask of a battle; of bytes that are none, any twelve bits
 pub record IsMask (side : Side) (battle : Parts) (mask : ℕ) : Type 0 where

@@ -6,7 +6,7 @@ use Rattle.gen1_layout.specs.declared.loading.LoadFault.{LoadFault}
 use Rattle.gen1_c.specs.Codes.{load_code, refusal_code, over_front}
 use Rattle.gen1_c.specs.Teams.{team_fault}
 use Rattle.gen1_c.specs.declared.teams.TeamForm.{TeamForm}
-use Rattle.gen1_machine.specs.declared.choice.Choice.{Choice}
+use Rattle.gen1_machine.specs.declared.side.Choice.{Choice}
 use Rattle.gen1_machine.specs.declared.event.Event.{Event}
 use Rattle.gen1_machine.specs.declared.side.Side.{Side}
 use Rattle.gen1_machine.specs.Choices.{byte_of_choice}
@@ -20,13 +20,13 @@ use Rattle.gen1_layout.specs.Shows.{Stands}
 use Rattle.gen1_engine.specs.Replay.{step_by_bytes}
 use Rattle.gen1_engine.specs.Update.{refusal_of}
 use Rattle.gen1_tables.specs.Names.{move_name, species_name}
-use Rattle.gen1_machine.specs.declared.choice.Choice.TheVariants.{Move, Pass, Switch}
+use Rattle.gen1_machine.specs.declared.side.Choice.TheVariants.{Move, Pass, Switch}
 use Rattle.gen1_words.specs.ChoiceWords.{choice_due}
-use Rattle.gen1_words.specs.declared.chosen.WordsFault.{WordsFault}
-use Rattle.gen1_words.specs.declared.chosen.WordsFault.TheVariants.{Ambiguous, NotOffered, Unknown}
+use Rattle.gen1_words.specs.declared.words.WordsFault.{WordsFault}
+use Rattle.gen1_words.specs.declared.words.WordsFault.TheVariants.{Ambiguous, NotOffered, Unknown}
 use Rattle.gen1_states.specs.declared.fault.StateFault.{StateFault}
-use Rattle.gen1_states.specs.Faults.{field_number}
-use Rattle.gen1_c.specs.declared.view.StateFaultForm.{StateFaultForm}
+use Rattle.gen1_states.specs.Plain.{field_number}
+use Rattle.gen1_c.specs.declared.battle.StateFaultForm.{StateFaultForm}
 
 -- the error of a team, plus 65,536 times its side
 abbrev pub teams_fault : ℕ → ℕ → ℕ

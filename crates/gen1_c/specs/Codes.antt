@@ -5,10 +5,10 @@ use Rattle.gen1_layout.specs.declared.loading.LoadFault.{LoadFault}
 use Rattle.gen1_engine.specs.Update.{refusal_number}
 use Rattle.gen1_engine.specs.declared.result.Refusal.{Refusal}
 use Rattle.gen1_events.specs.Faults.{number_of as fault_number}
-use Rattle.gen1_events.specs.declared.fault.LogFault.{LogFault}
-use Rattle.gen1_outcomes.specs.declared.fault.OutcomesFault.{OutcomesFault}
+use Rattle.gen1_events.specs.declared.reader.LogFault.{LogFault}
+use Rattle.gen1_outcomes.specs.declared.successor.OutcomesFault.{OutcomesFault}
 use Rattle.std.specs.List.{slice_get}
-use Rattle.gen1_outcomes.specs.declared.fault.OutcomesFault.TheVariants as outcomes
+use Rattle.gen1_outcomes.specs.declared.successor.OutcomesFault.TheVariants as outcomes
 
 -- 16 to 22: the first test that bytes fail
 abbrev pub load_code : LoadFault → ℕ

@@ -5,7 +5,7 @@ use Rattle.gen1_stats.specs.Teams.{team_refusal}
 use Rattle.gen1_machine.specs.declared.side.Side.{Side}
 use Rattle.gen1_machine.specs.Moves.{move_at, Move}
 use Rattle.gen1_machine.specs.Rules.{Rules}
-use Rattle.gen1_machine.specs.declared.choice.Choice.TheVariants.{Pass}
+use Rattle.gen1_machine.specs.declared.side.Choice.TheVariants.{Pass}
 use Rattle.gen1_machine.specs.State.{Field, first_state, State, usual_terms}
 use Rattle.gen1_machine.specs.Step.{step}
 use Rattle.gen1_odds.specs.declared.acting.ActionOdds.{ActionOdds}

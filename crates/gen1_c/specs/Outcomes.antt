@@ -1,23 +1,22 @@
 -- A list of the battles that an update can lead to (include/gen1.h, "exact outcomes").
 use Rattle.std.specs.Prelude.{List, Some, length, ℕ, ◌*◌, ◌+◌, ◌<◌, ◌≡◌, ◌≤◌, ◌⊎◌, take}
-use Rattle.gen1_machine.specs.declared.choice.Choice.{Choice}
+use Rattle.gen1_machine.specs.declared.side.Choice.{Choice}
 use Rattle.gen1_machine.specs.State.{State}
 use Rattle.gen1_machine.specs.Step.{Accepted, Answer, Refused}
 use Rattle.gen1_engine.specs.Replay.{choices_at, step_by_bytes}
-use Rattle.gen1_engine.specs.Update.{refusal_of, AreOffered}
-use Rattle.gen1_outcomes.specs.declared.options.OutcomeOptions.{OutcomeOptions}
+use Rattle.gen1_engine.specs.Update.{AreOffered, refusal_of}
+use Rattle.gen1_outcomes.specs.declared.successor.OutcomeOptions.{OutcomeOptions}
 use Rattle.gen1_outcomes.specs.declared.successor.Successor.{Successor}
 use Rattle.gen1_outcomes.specs.Complete.{IsExact, ListsEvery}
 use Rattle.gen1_outcomes.specs.Listing.{EachFollows, sum_of}
-use Rattle.gen1_outcomes.specs.Shares.{weight_at}
-use Rattle.gen1_outcomes.specs.Weights.{HasProbabilities}
+use Rattle.gen1_outcomes.specs.Weights.{weight_at, HasProbabilities}
 use Rattle.gen1_c.specs.Codes.{refusal_code}
 use Rattle.gen1_c.specs.declared.outcomes.OutcomeForm.{OutcomeForm}
 use Rattle.gen1_c.specs.declared.outcomes.OutcomeList.{OutcomeList}
 use Rattle.gen1_outcomes.specs.declared.nodes.Chance.{Chance}
 use Rattle.gen1_outcomes.specs.declared.plain.PlainWalk.{PlainWalk}
 use Rattle.gen1_outcomes.specs.Plain.{IsWay}
-use Rattle.gen1_c.specs.declared.walks.WayForm.{WayForm}
+use Rattle.gen1_c.specs.declared.outcomes.WayForm.{WayForm}
 
 -- the arrays that a call may write
 pub record Arrays : Type 0 where

@@ -2,7 +2,7 @@
 use Rattle.std.specs.Prelude.{List, if◌then◌else◌, length, nat_le, replicate, ℕ, ◌&&◌, ◌+◌, ◌<◌, ◌==◌, ◌≡◌, ◌≢◌, ◌≤◌}
 use Rattle.gen1_machine.specs.Rules.{rules_of}
 use Rattle.gen1_machine.specs.declared.event.Event.{Event}
-use Rattle.gen1_events.specs.declared.fault.LogFault.{LogFault}
+use Rattle.gen1_events.specs.declared.reader.LogFault.{LogFault}
 use Rattle.gen1_events.specs.Faults.{number_of}
 use Rattle.gen1_events.specs.Reader.{Breaks, IsReading, Splits}
 use Rattle.gen1_player.specs.declared.player.PlayerTerms.{PlayerTerms}
@@ -11,14 +11,14 @@ use Rattle.gen1_player.specs.Telling.{HasFault, form_number, form_of, meets_all,
 use Rattle.gen1_c.specs.Codes.{over_front}
 use Rattle.gen1_c.specs.declared.players.PlayerTermsForm.{PlayerTermsForm}
 use Rattle.gen1_stats.specs.Teams.{team_of}
-use Rattle.gen1_guesses.specs.declared.fault.GuessFault.{GuessFault}
+use Rattle.gen1_guesses.specs.declared.guess.GuessFault.{GuessFault}
 use Rattle.gen1_guesses.specs.declared.guess.Guess.{Guess}
 use Rattle.gen1_c.specs.Teams.{sheets_of}
 use Rattle.gen1_c.specs.Battle.{fault_form}
-use Rattle.gen1_c.specs.declared.guesses.GuessFaultForm.{GuessFaultForm}
-use Rattle.gen1_c.specs.declared.guesses.GuessForm.{GuessForm}
-use Rattle.gen1_c.specs.declared.view.StateFaultForm.{StateFaultForm}
-use Rattle.gen1_guesses.specs.declared.fault.GuessFault.TheVariants as faults
+use Rattle.gen1_c.specs.declared.players.GuessFaultForm.{GuessFaultForm}
+use Rattle.gen1_c.specs.declared.players.GuessForm.{GuessForm}
+use Rattle.gen1_c.specs.declared.battle.StateFaultForm.{StateFaultForm}
+use Rattle.gen1_guesses.specs.declared.guess.GuessFault.TheVariants as faults
 
 abbrev pub side_code : ℕ → ℕ
 side_code side = if nat_le 1 side && nat_le side 2 then 0 else 40

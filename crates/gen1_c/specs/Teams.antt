@@ -3,15 +3,15 @@ use Rattle.std.specs.Prelude.{List, None, Option, Some, [], if◌then◌else◌,
 use Rattle.std.specs.List.{list_any}
 use Rattle.gen1_stats.specs.Refusals.{number_of, place_of, number_of as rule_of}
 use Rattle.gen1_stats.specs.Teams.{Sheet, team_refusal}
-use Rattle.gen1_stats.specs.declared.refusal.TeamRefusal.{TeamRefusal}
-use Rattle.gen1_stats.specs.declared.refusal.TeamRefusal.TheVariants.{TooMany}
+use Rattle.gen1_stats.specs.declared.team.TeamRefusal.{TeamRefusal}
+use Rattle.gen1_stats.specs.declared.team.TeamRefusal.TheVariants.{TooMany}
 use Rattle.gen1_c.specs.declared.teams.MemberForm.{MemberForm}
 use Rattle.gen1_c.specs.declared.teams.TeamForm.{TeamForm}
 use Rattle.gen1_text.specs.declared.fault.MemberFault.{MemberFault}
 use Rattle.gen1_text.specs.declared.fault.PackedFault.{PackedFault}
 use Rattle.gen1_text.specs.declared.fault.TextFault.{TextFault}
-use Rattle.gen1_writer.specs.Written.{write_refusal}
-use Rattle.gen1_writer.specs.declared.fault.WriteFault.{WriteFault}
+use Rattle.gen1_writer.specs.Export.{write_refusal}
+use Rattle.gen1_writer.specs.declared.written.WriteFault.{WriteFault}
 use Rattle.gen1_c.specs.declared.team_text.TextFaultForm.{TextFaultForm}
 use Rattle.gen1_random.specs.Teams.{draft, sample_team, size_refusal}
 use Rattle.gen1_random.specs.declared.teams.DrawnFrom.{DrawnFrom}
@@ -19,7 +19,7 @@ use Rattle.gen1_random.specs.declared.teams.DrawnFrom.TheVariants.{All, Samples}
 use Rattle.gen1_text.specs.declared.fault.MemberFault.TheVariants as expects
 use Rattle.gen1_text.specs.declared.fault.PackedFault.TheVariants as packed
 use Rattle.gen1_text.specs.declared.fault.TextFault.TheVariants as texts
-use Rattle.gen1_writer.specs.declared.fault.WriteFault.TheVariants as writing
+use Rattle.gen1_writer.specs.declared.written.WriteFault.TheVariants as writing
 
 -- what is described
 

@@ -2,7 +2,7 @@
 use Rattle.std.specs.Prelude.{List, [], length, map, take, ℕ, ◌≡◌, ◌∷◌}
 use Rattle.gen1_stats.specs.Members.{Member}
 use Rattle.gen1_stats.specs.Teams.{team_of}
-use Rattle.gen1_machine.specs.declared.choice.Choice.{Choice}
+use Rattle.gen1_machine.specs.declared.side.Choice.{Choice}
 use Rattle.gen1_machine.specs.declared.side.Side.TheVariants.{One, Two}
 use Rattle.gen1_machine.specs.Choices.{byte_of_choice}
 use Rattle.gen1_machine.specs.Layout.{bytes_of}
@@ -15,8 +15,7 @@ use Rattle.gen1_machine.specs.View.{shows}
 use Rattle.gen1_events.specs.Reader.{part, IsReading}
 use Rattle.gen1_engine.specs.Replay.{step_by_bytes}
 use Rattle.gen1_engine.specs.Update.{refusal_of}
-use Rattle.gen1_spectator.specs.Plain.{reading_of, view_of}
-use Rattle.gen1_spectator.specs.Following.{AreRead, joined}
+use Rattle.gen1_spectator.specs.Plain.{reading_of, view_of, AreRead, joined}
 use Rattle.gen1_spectator.specs.declared.plain.PlainSpectator.{PlainSpectator}
 use Rattle.gen1_c.specs.Battle.{new_fault, result_byte}
 use Rattle.gen1_c.specs.Codes.{refusal_code, over_front}

@@ -1,4 +1,5 @@
-//! The odds of a use of a move, and its chance to knock out (include/gen1.h, "calculating"; docs/MECHANICS.md, "Critical hits" to "Hit test").
+//! The damage of a hit in the present state of a battle, the odds of a use of a move, and its chance to knock out
+//! (include/gen1.h, "calculating"; docs/MECHANICS.md, "Critical hits" to "Hit test").
 ghost use Rattle.std.specs.Prelude.{Err, IfErr, [], if◌then◌else◌, ◌∷◌, ◌≡◌, ◌≢◌, ◌≤◌};
 ghost use Rattle.gen1_stats.specs.Teams.{team_of};
 ghost use Rattle.gen1_machine.specs.Numbers.{side_number};
@@ -8,12 +9,13 @@ ghost use Rattle.gen1_machine.specs.declared.side.Side.TheVariants.{One};
 ghost use Rattle.gen1_layout.specs.Shows.{Stands};
 ghost use Rattle.gen1_odds.specs.KnockOut.{AreChances, AreThree};
 ghost use Rattle.gen1_odds.specs.Odds.{IsListed};
-ghost use Rattle.gen1_c.specs.Odds.{Tells, action_odds_due, between_fault, chances_due, drained_due, facing, hit_test_due, odds_due, odds_of_state, recoil_due, three_chances_due, use_due};
+ghost use Rattle.gen1_c.specs.Odds.{Tells, TellsDamages, action_odds_due, between_fault, chances_due, damages_due, drained_due, facing, hit_test_due, odds_due, odds_of_state, recoil_due, three_chances_due, use_due};
 ghost use Rattle.gen1_c.specs.Teams.{sheet_of};
 ghost use Rattle.gen1_c.specs.Battle.{IsNoSide};
 
 use crate::teams::{MemberForm, team_of_one};
 use gen1_engine::packed::update_events;
+use gen1_hits::{damage_list, has_usual_damage, numbers};
 use gen1_layout::Packed;
 use gen1_machine::{Choice, EventList, Side};
 use gen1_odds::{
@@ -233,4 +235,47 @@ fn sent_out(one: &Team, two: &Team) -> Packed
     // Both sides are offered Pass.
     let _result = update_events(&mut battle, Choice::Pass, Choice::Pass, &mut events);
     battle
+}
+
+const UNUSUAL: u8 = 48;
+
+const DIVISOR: u8 = 49;
+
+/// Computes the damage of a hit by a move of a side at each factor from 217 to 255, for both active members as they are now
+/// (include/gen1.h, "calculating"; docs/MECHANICS.md, "Damage numbers" to "Factors"). Returns 0, or the first code that applies;
+/// then the numbers have not changed.
+#[unsafe(no_mangle)]
+pub extern "C" fn gen1_damage(
+    battle: &Packed,
+    side: u8,
+    number: u8,
+    critical: bool,
+    damages: &mut [u16; 39],
+) -> u8
+    ensures tells { (s : State) (which : Side) → Stands battle.now s → side ≡ side_number which
+        → TellsDamages (damages_due which number critical s.field) damages.old damages.new result }
+    ensures no_side { IsNoSide side → (result ≡ 40) × (damages.new ≡ damages.old) }
+    // For any bytes, valid or not.
+    ensures code { result ≢ 0 → result ≢ 11 → result ≢ 40 → (48 ≤ result) × (result ≤ 50) }
+    ensures kept { result ≢ 0 → damages.new ≡ damages.old }
+{
+    let Some(side) = Side::from_number(side) else {
+        return NO_SIDE;
+    };
+    let Some(id) = MoveId::new(number) else {
+        return NO_MOVE;
+    };
+    if !has_usual_damage(id) {
+        return UNUSUAL;
+    }
+    if battle.turn() == 0 {
+        return NOBODY;
+    }
+    match damage_list(&numbers(battle, side, id, critical)) {
+        Some(list) => {
+            *damages = list;
+            0
+        }
+        None => DIVISOR,
+    }
 }

@@ -10,7 +10,7 @@ ghost use Rattle.gen1_c.specs.Rooms.{ForfeitsAs, lost_byte, reply_code, why_code
 ghost use Rattle.gen1_c.specs.Battle.{IsNoSide, IsResult, Offers, result_byte};
 
 use crate::codes::SIDE;
-use crate::fronts::put_front;
+use crate::lines::put_front;
 use gen1_layout::{byte_of_outcome, byte_of_request};
 use gen1_machine::Side;
 use gen1_room::RoomRefusal;

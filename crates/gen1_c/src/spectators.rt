@@ -3,9 +3,8 @@ ghost use Rattle.std.specs.Prelude.{Err, Ok, [], ◌≡◌, ◌≢◌, ◌≤◌
 ghost use Rattle.gen1_stats.specs.Teams.{team_of};
 ghost use Rattle.gen1_machine.specs.View.{View, first_view};
 ghost use Rattle.gen1_events.specs.Reader.{Reading, part};
-ghost use Rattle.gen1_events.specs.declared.fault.LogFault.{LogFault};
-ghost use Rattle.gen1_spectator.specs.Following.{Follows};
-ghost use Rattle.gen1_spectator.specs.Plain.{IsExact, IsInRange, IsLaidOut, IsPlainSpectator, reading_of, view_of};
+ghost use Rattle.gen1_events.specs.declared.reader.LogFault.{LogFault};
+ghost use Rattle.gen1_spectator.specs.Plain.{Follows, IsExact, IsInRange, IsLaidOut, IsPlainSpectator, reading_of, view_of};
 ghost use Rattle.gen1_c.specs.Battle.{teams_fault};
 ghost use Rattle.gen1_c.specs.Codes.{log_code};
 ghost use Rattle.gen1_c.specs.Teams.{sheets_of, team_fault};

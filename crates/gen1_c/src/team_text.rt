@@ -3,13 +3,12 @@ ghost use Rattle.std.specs.Prelude.{None, Ok, length, take, ◌≡◌, ◌≤◌
 ghost use Rattle.gen1_stats.specs.Teams.{team_of};
 ghost use Rattle.gen1_text.specs.Packed.{members_packed, team_packed};
 ghost use Rattle.gen1_text.specs.Texts.{members_told, team_told};
-ghost use Rattle.gen1_writer.specs.Export.{text_of, packed_of};
-ghost use Rattle.gen1_writer.specs.Written.{write_refusal};
+ghost use Rattle.gen1_writer.specs.Export.{text_of, packed_of, write_refusal};
 ghost use Rattle.gen1_c.specs.Codes.{Writes};
 ghost use Rattle.gen1_c.specs.Teams.{TellsTeam, code_of, expected, form_of, member_at, member_of, move_at, number_fault, of_packed, of_team, of_text, of_write, packed_due, sheets_of, team_due, text_due, written_due};
 
 use crate::codes::{TEXT_FIELDS, TEXT_SEVENTH_MEMBER, TEXT_TEAM, UNWRITABLE};
-use crate::fronts::write_text;
+use crate::lines::write_text;
 use crate::teams::{MemberForm, TeamForm, fault_of, number_fault, specs_of};
 use arrayvec::ArrayVec;
 use gen1_stats::{MemberSpec, Team, TeamRefusal};

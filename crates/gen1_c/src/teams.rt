@@ -1,13 +1,16 @@
-//! Teams as plain structs (include/gen1.h, "beginning"; docs/MECHANICS.md, "Teams").
-ghost use Rattle.std.specs.Prelude.{IfErr, IfOk, OnOk, [], length, map, ◌∷◌, ◌+◌, ◌++◌, ◌<◌, ◌≡◌, ◌≢◌, ◌≤◌};
-ghost use Rattle.arrayvec.specs.ArrayVec.{array_vec_len};
+//! Teams as plain structs, random teams, and the sample teams (include/gen1.h, "beginning", "random teams";
+//! docs/MECHANICS.md, "Teams", "Random teams").
+ghost use Rattle.std.specs.Prelude.{IfErr, IfOk, OnOk, [], length, map, ◌++◌, ◌+◌, ◌<◌, ◌∷◌, ◌≡◌, ◌≢◌, ◌≤◌};
 ghost use Rattle.gen1_stats.specs.Teams.{team_of};
 ghost use Rattle.gen1_c.specs.Battle.{teams_fault};
 ghost use Rattle.gen1_c.specs.Odds.{one_fault};
-ghost use Rattle.gen1_c.specs.Teams.{chosen, fault_of, first_fault, member_fault, number_fault, sheet_of, sheets_of, species_of, team_fault};
+ghost use Rattle.gen1_c.specs.Teams.{GivesTeam, chosen, fault_of, first_fault, member_fault, number_fault, random_due, sample_due, sheet_of, sheets_of, source, species_of, team_fault};
+ghost use Rattle.arrayvec.specs.ArrayVec.{array_vec_len};
 
-use crate::codes::{MOVE, SPECIES};
+use crate::codes::{MOVE, SPECIES, UNKNOWN};
+use crate::team_text::form_of;
 use arrayvec::ArrayVec;
+use gen1_random::{DrawnFrom, random_members, sample_members};
 use gen1_stats::{MemberSpec, Team, TeamRefusal};
 use gen1_tables::{MoveId, Species};
 
@@ -195,5 +198,48 @@ fn species_of(number: u8) -> Species
     match Species::new(number) {
         Some(species) => species,
         None => Species::default(),
+    }
+}
+
+/// Writes a random team of `count` members of the sample teams, or of all species and moves if `from_all` is not 0. Returns 0, or a code
+/// if `count` is not 1 to 6; then nothing has changed.
+#[unsafe(no_mangle)]
+pub extern "C" fn gen1_random_team(seed: u64, count: u8, from_all: u8, team: &mut TeamForm) -> u8
+    ensures gives { GivesTeam (random_due seed count from_all) team.old team.new result }
+    // gen1_new accepts it.
+    ensures lawful { result ≡ 0 → team_fault team.new ≡ 0 }
+{
+    match random_members(seed, count, source(from_all)) {
+        Ok(members) => {
+            *team = form_of(members.as_slice());
+            0
+        }
+        Err(refusal) => refusal.number(),
+    }
+}
+
+/// Writes a sample team by its number, from 1. Returns 0, or a code if there is none; then nothing has changed.
+#[unsafe(no_mangle)]
+pub extern "C" fn gen1_sample_team(number: u8, team: &mut TeamForm) -> u8
+    ensures gives { GivesTeam (sample_due number) team.old team.new result }
+    // gen1_new accepts it.
+    ensures lawful { result ≡ 0 → team_fault team.new ≡ 0 }
+{
+    match sample_members(number) {
+        Some(members) => {
+            *team = form_of(members.as_slice());
+            0
+        }
+        None => UNKNOWN,
+    }
+}
+
+fn source(from_all: u8) -> DrawnFrom
+    ensures { result ≡ source from_all }
+{
+    if from_all == 0 {
+        DrawnFrom::Samples
+    } else {
+        DrawnFrom::All
     }
 }

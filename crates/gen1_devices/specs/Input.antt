@@ -2,8 +2,8 @@
 -- order").
 use Rattle.std.specs.Prelude.{ℕ, ◌<◌, ◌≤◌, List, length, Bool, true, false, Option, Result, Ok, Err}
 use Rattle.std.specs.Io.KnownBytes.{Consumes}
-use Rattle.gen1_devices.specs.declared.input.InputFault.{InputFault}
-use Rattle.gen1_devices.specs.declared.input.InputFault.TheVariants.{Device, TooLong, Memory}
+use Rattle.gen1_devices.specs.declared.io.InputFault.{InputFault}
+use Rattle.gen1_devices.specs.declared.io.InputFault.TheVariants.{Device, TooLong, Memory}
 
 -- Known bytes lose a prefix of at most this many.
 pub record TakesAtMost (old new : Option (List ℕ)) (most : ℕ) : Type 0 where

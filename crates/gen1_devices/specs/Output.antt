@@ -2,7 +2,7 @@
 -- and statuses").
 use Rattle.std.specs.Prelude.{◌≡◌, ◌||◌, ℕ, List, ◌++◌, Bool, Option, Result, is_err, OnOk, OnErr, ◌&&◌, ◌==◌, true, nat_lt, length, Ok, Err}
 use Rattle.std.specs.Io.KnownBytes.{Appends}
-use Rattle.gen1_devices.specs.declared.device.Device.{Device}
+use Rattle.gen1_devices.specs.declared.io.Device.{Device}
 
 -- Known bytes grow by a prefix of the text.
 pub record AppendsFront (old new : Option (List ℕ)) (text : List ℕ) : Type 0 where

@@ -2,9 +2,9 @@
 -- number. Two bytes that look the same under the look of a slot lead to the same progress.
 use Rattle.gen1_layout.proofs.Words.{Bool, IsBetween, List, Progress, Side, [], ap, arith, choose-true, draw, false, inl, inr, known_in, length, nat_lt, nat_tests, refl, stay, stop, suc, sym, then-stops, true, zero, ℕ, ◌∙◌, ◌▸◌}
 use Rattle.std.proofs.Common.{All, slice_index_or, add-zero, get_or, if◌then◌else◌, not, ◌%◌, ◌&&◌, ◌+◌, ◌-◌, ◌<◌, ◌||◌, ◌∷◌, ◌≡◌, ◌≤◌, ◌⊎◌}
-use Rattle.gen1_stats.specs.declared.known_move.KnownMove.{KnownMove}
+use Rattle.gen1_stats.specs.declared.member.KnownMove.{KnownMove}
 use Rattle.gen1_stats.specs.Members.{nothing_known}
-use Rattle.gen1_rolls.specs.declared.look.Look.TheVariants.{Remainder}
+use Rattle.gen1_rolls.specs.declared.rolls.Look.TheVariants.{Remainder}
 use Rattle.gen1_rolls.specs.Streams.{sees}
 use Rattle.gen1_machine.specs.declared.event.Volatile.TheVariants as volatiles
 use Rattle.gen1_machine.specs.Conditions.{with_disabled}

@@ -11,10 +11,10 @@ use Rattle.gen1_machine.specs.Ruling.{fall_asleep, sleep_freely, sleep_only_one,
 use Rattle.gen1_machine.specs.Sides.{other}
 use Rattle.gen1_machine.specs.StageShift.{raise_stage}
 use Rattle.gen1_machine.specs.EarlyEffects.{confuse_foe, convert, early_effect, haze, heal, make_substitute, paralyse_foe, poison_foe, seed_foe, set_focus_energy, set_mist, set_screen, splash}
-use Rattle.gen1_effects.specs.declared.early_effects.dispatch.Way.{Way}
+use Rattle.gen1_effects.specs.declared.early_effects.Way.{Way}
 use Rattle.gen1_effects.specs.EarlyEffects.{way_of}
 use Rattle.gen1_tables.specs.declared.effect.Effect.TheVariants as effects
-use Rattle.gen1_effects.specs.declared.early_effects.dispatch.Way.TheVariants as ways
+use Rattle.gen1_effects.specs.declared.early_effects.Way.TheVariants as ways
 
 module _ (r : Ruling) (s : Side) (move : Move) (e : Effect) (p : Progress) where
   -- The action ends with the result of the effect.

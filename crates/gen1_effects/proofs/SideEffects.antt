@@ -2,7 +2,7 @@
 use Rattle.std.proofs.Common.{◌&&◌, ◌≡◌, refl}
 use Rattle.gen1_layout.proofs.Words.{Bool, Frame, Parts, Phase, Progress, Shows, Side, Telling, false, if_not, if_so, stay, stays, true}
 use Rattle.gen1_tables.specs.declared.effect.Effect.{Effect}
-use Rattle.gen1_machine.specs.declared.health.Kind.{Kind}
+use Rattle.gen1_machine.specs.declared.event.Kind.{Kind}
 use Rattle.gen1_machine.specs.Conditions.{with_flinch, with_recharge, with_focus_energy, with_light_screen, with_mist, with_reflect, with_seed, ActiveConditions}
 use Rattle.gen1_machine.specs.Moves.{Move}
 use Rattle.gen1_machine.specs.Progress.{inflict}
@@ -14,7 +14,7 @@ use Rattle.gen1_status.specs.Statuses.{status_of_kind}
 use Rattle.gen1_effects.specs.declared.side_effects.Way.{Way}
 use Rattle.gen1_effects.specs.SideEffects.{afflict, harm_of, harms, harms_unless_away, is_freeze, way_of}
 use Rattle.gen1_tables.specs.declared.effect.Effect.TheVariants as effects
-use Rattle.gen1_machine.specs.declared.health.Kind.TheVariants as kinds
+use Rattle.gen1_machine.specs.declared.event.Kind.TheVariants as kinds
 use Rattle.gen1_effects.specs.declared.side_effects.Way.TheVariants as ways
 
 abbrev pub way_phase : Ruling → Side → Move → Way → Phase

@@ -5,7 +5,7 @@ use Rattle.gen1_machine.specs.declared.side.Side.TheVariants.{One, Two}
 use Rattle.gen1_machine.specs.EarlyEffects.{with_levelled_stats}
 use Rattle.gen1_machine.specs.Stages.{at_stage}
 use Rattle.std.specs.Prelude.{slice_index_or}
-use Rattle.gen1_tables.specs.declared.element.Element.TheVariants.{Normal}
+use Rattle.gen1_tables.specs.declared.types.Element.TheVariants.{Normal}
 use Rattle.gen1_tables.specs.declared.effect.Effect.{Effect}
 use Rattle.gen1_tables.specs.declared.effect.Stat.{Stat}
 use Rattle.gen1_tables.specs.Moves.{move_rows, move_row, MoveRow}

@@ -1,8 +1,8 @@
 -- The ways of early effects (docs/MECHANICS.md, "Early effects").
 use Rattle.gen1_tables.specs.declared.effect.Effect.{Effect}
 use Rattle.gen1_tables.specs.declared.effect.Effect.TheVariants as effects
-use Rattle.gen1_effects.specs.declared.early_effects.dispatch.Way.{Way}
-use Rattle.gen1_effects.specs.declared.early_effects.dispatch.Way.TheVariants as ways
+use Rattle.gen1_effects.specs.declared.early_effects.Way.{Way}
+use Rattle.gen1_effects.specs.declared.early_effects.Way.TheVariants as ways
 
 abbrev pub way_of : Effect → Way
 way_of effects.Conversion = ways.Conversion

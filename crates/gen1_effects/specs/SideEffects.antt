@@ -2,9 +2,9 @@
 use Rattle.gen1_layout.specs.Words.{Bool, Phase, Side, false, other, true}
 use Rattle.gen1_tables.specs.declared.effect.Effect.{Effect}
 use Rattle.gen1_tables.specs.declared.effect.Effect.TheVariants as effects
-use Rattle.gen1_stats.specs.declared.status.Status.TheVariants.{Burned, Paralysed}
-use Rattle.gen1_machine.specs.declared.health.Kind.{Kind}
-use Rattle.gen1_machine.specs.declared.health.Kind.TheVariants as kinds
+use Rattle.gen1_stats.specs.declared.member.Status.TheVariants.{Burned, Paralysed}
+use Rattle.gen1_machine.specs.declared.event.Kind.{Kind}
+use Rattle.gen1_machine.specs.declared.event.Kind.TheVariants as kinds
 use Rattle.gen1_machine.specs.Moves.{Move}
 use Rattle.gen1_machine.specs.Progress.{given, draw_until, has_substitute, inflict, member, stay, unless}
 use Rattle.gen1_machine.specs.Ruling.{Ruling}

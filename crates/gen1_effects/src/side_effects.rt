@@ -1,32 +1,24 @@
-//! What a move may do in addition to its damage (docs/MECHANICS.md, "Side effects").
-ghost use Rattle.std.specs.Prelude.{◌≡◌};
+//! What a move may do in addition to its damage, Disable with its draws (docs/MECHANICS.md, "Side effects").
+ghost use Rattle.std.specs.Prelude.{if◌then◌else◌, slice_index_or, ℕ, ◌%◌, ◌≡◌};
 ghost use Rattle.gen1_rolls.specs.Draws.{Steps};
-ghost use Rattle.gen1_layout.specs.Operations.{DrawsWhere, anything, scene};
-ghost use Rattle.gen1_layout.specs.Words.{AddsAtMost, HasRoom, false, move_at};
-ghost use Rattle.gen1_machine.specs.SideEffects.{side_effect};
-ghost use Rattle.gen1_hits.specs.Knowing.{IsUncounted, aware, Leaves, beginning};
-ghost use Rattle.gen1_effects.specs.SideEffects.{harm_of, harms, harms_unless_away, way_of};
+ghost use Rattle.gen1_rolls.specs.declared.rolls.Look.TheVariants.{Remainder};
+ghost use Rattle.gen1_machine.specs.SideEffects.{disable, disable_for, disable_slot, has_pp, must_recharge, names_slot, side_effect};
+ghost use Rattle.gen1_machine.specs.Progress.{member};
+ghost use Rattle.gen1_layout.specs.Operations.{Does, DoesWhere, Draws, DrawsWhere, anything, holding, scene};
+ghost use Rattle.gen1_layout.specs.Words.{AddsAtMost, Field, HasRoom, Reads, Setting, Within, false, member_in, move_at, other, true};
+ghost use Rattle.gen1_hits.specs.Knowing.{IsUncounted, Leaves, aware, beginning};
+ghost use Rattle.gen1_effects.specs.SideEffects.{draw_slot, harm_of, harms, harms_unless_away, way_of};
 
-mod chance;
-mod confusion_chance;
-mod disable;
-mod flinch_chance;
-mod recharge;
-mod stat_drops;
-mod status_chance;
+mod chances;
 
-use confusion_chance::may_confuse;
-use disable::disable;
-use flinch_chance::may_flinch;
+use chances::{may_confuse, may_flinch, may_inflict, may_lower, may_poison};
 use gen1_events::EventSink;
-use gen1_hits::Known;
+use gen1_hits::{Known, must_hit};
 use gen1_layout::{Conditions, Packed};
-use gen1_machine::{Kind, Side};
-use gen1_rolls::Rolls;
+use gen1_machine::{DisabledSlot, Event, Kind, Side, Volatile};
+use gen1_rolls::{ByteTest, Look, Rolls};
+use gen1_status::fail;
 use gen1_tables::{Effect, MoveId, Stat};
-use recharge::must_recharge;
-use stat_drops::may_lower;
-use status_chance::{may_inflict, may_poison};
 
 // What a move may do in addition to its damage. The numbers are the bounds of draws.
 #[derive(Clone, Copy)]
@@ -178,4 +170,147 @@ fn harm_of(effect: Effect) -> Harm
         Effect::StatDownChance(stat) => Harm::Drop(stat),
         _ => Harm::Nothing,
     }
+}
+
+fn disable<R: Rolls, S: EventSink>(
+    battle: &mut Packed,
+    side: Side,
+    id: MoveId,
+    known: &mut Known,
+    random: &mut R,
+    events: &mut S,
+) -> bool
+    requires room { HasRoom S.room 1 events.old }
+    ensures shown { Draws R.drawing random (aware known (scene S.tells battle events)) result
+        (disable side (move_at id)) }
+    ensures counts { IsUncounted known.old → IsUncounted known.new }
+    ensures room { AddsAtMost S.room 1 events.old events.new }
+    ensures steps { Steps R.drawing random }
+{
+    if must_hit(battle, side, id, known, random, events) {
+        return true;
+    }
+    if battle.is_on(side.other(), Conditions::DISABLED) {
+        fail(battle, side, events);
+        return true;
+    }
+    draw_slot(battle, side, random, events)
+}
+
+// Draws until a byte names a slot. If no slot has PP, Disable fails at the first slot that holds a move.
+fn draw_slot<R: Rolls, S: EventSink>(
+    battle: &mut Packed,
+    side: Side,
+    random: &mut R,
+    events: &mut S,
+) -> bool
+    requires room { HasRoom S.room 1 events.old }
+    ensures shown { Draws R.drawing random (scene S.tells battle events) result (draw_slot side) }
+    ensures room { AddsAtMost S.room 1 events.old events.new }
+    ensures steps { Steps R.drawing random }
+{
+    let foe = side.other();
+    let any_pp = has_pp(battle, foe);
+    let test = ByteTest::PlaceOf(named_slots(battle, foe, any_pp));
+    match random.until_as(test, slot_look(any_pp)) {
+        Some(byte) => disable_slot(battle, side, any_pp, byte, random, events),
+        None => false,
+    }
+}
+
+fn disable_slot<R: Rolls, S: EventSink>(
+    battle: &mut Packed,
+    side: Side,
+    any_pp: bool,
+    byte: u8,
+    random: &mut R,
+    events: &mut S,
+) -> bool
+    requires room { HasRoom S.room 1 events.old }
+    ensures shown { DrawsWhere R.drawing random
+        (λ g p Then. any_pp ≡ has_pp (member (other side) p).moves → names_slot
+        (member (other side) p).moves byte ≡ true → Then) (scene S.tells battle events) result
+        (λ r p. disable_slot side (member (other side) p).moves byte p) }
+    ensures room { AddsAtMost S.room 1 events.old events.new }
+    ensures steps { Steps R.drawing random }
+{
+    if !any_pp {
+        fail(battle, side, events);
+        return true;
+    }
+    let count = random.draw_as(Look::Remainder(8));
+    disable_for(battle, side.other(), byte, count, events);
+    false
+}
+
+fn disable_for<S: EventSink>(battle: &mut Packed, foe: Side, byte: u8, count: u8, events: &mut S)
+    requires room { HasRoom S.room 1 events.old }
+    ensures shown { DoesWhere (holding λ p. names_slot (member foe p).moves byte ≡ true)
+        (scene S.tells battle events) false (λ r. disable_for foe byte count) }
+    ensures room { AddsAtMost S.room 1 events.old events.new }
+{
+    let disabled = DisabledSlot {
+        slot: byte % 4 + 1,
+        turns: count % 8 + 1,
+    };
+    battle.put_disabled(foe, Some(disabled));
+    events.push(Event::Start(battle.who(foe), Volatile::Disable));
+}
+
+// If no slot has PP, Disable fails at each slot.
+fn slot_look(any_pp: bool) -> Look
+    ensures { result ≡ (if any_pp then Remainder 4 else Remainder 1) }
+{
+    if any_pp {
+        Look::Remainder(4)
+    } else {
+        Look::Remainder(1)
+    }
+}
+
+// Which of the four slots a byte may name.
+fn named_slots(battle: &Packed, foe: Side, any_pp: bool) -> [bool; 4]
+    ensures stands { (g : Setting) (f : Field) → Within g battle.now f
+        → any_pp ≡ has_pp (member_in foe f).moves → (byte : ℕ)
+        → slice_index_or result (byte % 4) false ≡ names_slot (member_in foe f).moves byte }
+{
+    [
+        names_slot(battle, foe, any_pp, 0),
+        names_slot(battle, foe, any_pp, 1),
+        names_slot(battle, foe, any_pp, 2),
+        names_slot(battle, foe, any_pp, 3),
+    ]
+}
+
+// A drawn slot has to hold a move. If any move has PP, that move must have PP.
+fn names_slot(battle: &Packed, foe: Side, any_pp: bool, byte: u8) -> bool
+    ensures stands { (g : Setting) (f : Field) → Within g battle.now f
+        → any_pp ≡ has_pp (member_in foe f).moves
+        → result ≡ names_slot (member_in foe f).moves byte }
+{
+    let slot = byte % 4 + 1;
+    let held = battle.move_in(foe, slot) > 0;
+    let has_pp = battle.pp(foe, slot) > 0;
+    held & (!any_pp | has_pp)
+}
+
+// Whether a move of the member that is out has PP left.
+fn has_pp(battle: &Packed, side: Side) -> bool
+    ensures stands { Reads battle.now result λ f. has_pp (member_in side f).moves }
+{
+    let one = battle.pp(side, 1) > 0;
+    let two = battle.pp(side, 2) > 0;
+    let three = battle.pp(side, 3) > 0;
+    let four = battle.pp(side, 4) > 0;
+    // All four are read, so that no branch depends on which has PP.
+    one | (two | (three | four))
+}
+
+fn must_recharge<S: EventSink>(battle: &mut Packed, side: Side, events: &mut S)
+    requires room { HasRoom S.room 1 events.old }
+    ensures shown { Does (scene S.tells battle events) false (must_recharge side) }
+    ensures room { AddsAtMost S.room 1 events.old events.new }
+{
+    battle.put_flag(side, Conditions::RECHARGE, true);
+    events.push(Event::MustRecharge(battle.who(side)));
 }

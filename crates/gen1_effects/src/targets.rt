@@ -2,7 +2,7 @@
 ghost use Rattle.std.specs.Prelude.{◌&&◌};
 ghost use Rattle.gen1_layout.specs.Words.{Reads, active_in, conditions_in, is_some, not, status_in};
 ghost use Rattle.gen1_stats.specs.Members.{is_healthy};
-ghost use Rattle.gen1_tables.specs.declared.element.Element.TheVariants.{Electric, Ground};
+ghost use Rattle.gen1_tables.specs.declared.types.Element.TheVariants.{Electric, Ground};
 ghost use Rattle.gen1_tables.specs.Types.{same_type};
 ghost use Rattle.gen1_machine.specs.State.{has_type};
 

@@ -2,7 +2,3 @@
 pub mod Making
 -- Pairs of bytes that were played.
 pub mod Played
--- While a battle continues, each side is offered something.
-pub mod Offers
--- Other numbers to draw.
-pub mod Reseeded

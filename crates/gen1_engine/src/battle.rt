@@ -8,18 +8,16 @@ ghost use Rattle.gen1_layout.specs.Loading.{IsLoadedAs};
 ghost use Rattle.gen1_layout.specs.LoadingLaws.{IsBattle, StandsForSome};
 ghost use Rattle.gen1_layout.specs.Shows.{Stands};
 ghost use Rattle.gen1_layout.specs.Words.{AddsAtMost, HasRoom};
-ghost use Rattle.gen1_switching.specs.Updates.{Steps};
-ghost use Rattle.gen1_engine.specs.OfferedMask.{offered_mask};
+ghost use Rattle.gen1_switching.specs.SwitchingIn.{Steps};
+ghost use Rattle.gen1_engine.specs.Update.{Answers, AreOffered, IsBounded, Logs, Tells, offered_mask, reseeded, result_of};
 ghost use Rattle.gen1_engine.specs.Replay.{AnswersBytes, LogsBytes, Replays, TellsBytes, is_write_fault};
-ghost use Rattle.gen1_engine.specs.Reseed.{reseeded};
-ghost use Rattle.gen1_engine.specs.Update.{Answers, AreOffered, IsBounded, Logs, Tells, result_of};
 
-use crate::choice_bytes::{update_by_bytes, update_events_by_bytes, update_silent_by_bytes};
-use crate::offered_mask::offered_mask;
-use crate::replay::{ReplayFault, replay};
-use crate::reseed::reseed;
+use crate::choice_bytes::{
+    ReplayFault, replay, update_by_bytes, update_events_by_bytes, update_silent_by_bytes,
+};
+use crate::packed::offered_mask;
 use crate::result::{BattleResult, Refusal};
-use crate::update::{result, update, update_events, update_offered, update_silent};
+use crate::update::{reseed, result, update, update_events, update_offered, update_silent};
 use gen1_events::{EventSink, LogBuf};
 use gen1_layout::{LoadFault, Packed};
 use gen1_machine::{Choice, EventList, Rules, Side, Sink, TurnLimit};

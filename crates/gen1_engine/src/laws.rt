@@ -1,6 +1,6 @@
 //! Laws about calls of `Battle::update`, one after the other, from a battle of two teams or a loaded one (docs/MECHANICS.md,
 //! "Offered choices", "Turn limit"). Each function does nothing: its contract is the law.
-ghost use Rattle.gen1_engine.specs.Calls.{CallsAreTheRun, CallsEnd, OfferedIsAccepted};
+ghost use Rattle.gen1_engine.specs.Update.{CallsAreTheRun, CallsEnd, OfferedIsAccepted};
 
 /// A pair of offered choices is never refused.
 pub fn offered_is_accepted()

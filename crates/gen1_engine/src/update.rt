@@ -1,21 +1,25 @@
-//! An update of the bytes of a battle, by what the sides are asked (docs/MECHANICS.md, "Offered choices", "Falls and requests"). A
-//! sink takes the events: a list, log bytes, or nothing.
-ghost use Rattle.std.specs.Prelude.{Bool, IsOk, OnErr, [], false, length, ◌≡◌, ◌≤◌};
+//! An update of the bytes of a battle, by what the sides are asked, and other numbers for a battle to draw
+//! (docs/MECHANICS.md, "Offered choices", "Falls and requests", "Link numbers"). A sink takes the events: a list, log
+//! bytes, or nothing.
+ghost use Rattle.std.specs.Prelude.{Bool, IsOk, OnErr, [], drop, false, length, take, ◌++◌, ◌∷◌, ◌≡◌, ◌≤◌};
+ghost use Rattle.gen1_rolls.specs.Streams.{IsStream, Link};
 ghost use Rattle.gen1_machine.specs.LogBytes.{codes_of};
 ghost use Rattle.gen1_machine.specs.State.{State, is_over};
 ghost use Rattle.gen1_machine.specs.declared.terms.Request.TheVariants.{Move};
 ghost use Rattle.gen1_layout.specs.Shows.{Stands};
 ghost use Rattle.gen1_layout.specs.Words.{AddsAtMost, HasRoom};
 ghost use Rattle.gen1_layout.specs.LoadingLaws.{StandsForSome};
-ghost use Rattle.gen1_switching.specs.Updates.{Plays, Steps};
+ghost use Rattle.gen1_switching.specs.SwitchingIn.{Plays, Steps};
 ghost use Rattle.gen1_engine.specs.Replay.{IsRefused};
-ghost use Rattle.gen1_engine.specs.Update.{Answers, AreOffered, Logs, Tells, Tests, result_of};
+ghost use Rattle.gen1_engine.specs.Update.{Answers, AreOffered, Logs, Tells, Tests, reseeded, result_of};
 
 use crate::result::{BattleResult, Refusal};
 use gen1_events::{EventSink, LogBuf, Silent};
 use gen1_layout::Packed;
+use gen1_layout::offsets::{INDEX, NUMBERS, OUTCOME};
 use gen1_machine::{Choice, EventList, Request, Side};
 use gen1_offers::is_offered;
+use gen1_rolls::LinkRandom;
 use gen1_switching::{replace, start};
 use gen1_turn::turn;
 
@@ -188,4 +192,28 @@ fn step_turn<S: EventSink>(battle: &mut Packed, one: Choice, two: Choice, events
         }
         None => {}
     }
+}
+
+/// Replaces the numbers that a battle draws, and changes nothing else. The bytes then represent the same state, with these numbers
+/// as its seed and as many draws taken as their index says.
+pub fn reseed(battle: &mut Packed, numbers: &LinkRandom)
+    ensures stands { (s : State) → Stands battle.old s
+        → Stands battle.new (reseeded numbers.now s) }
+    ensures valid { StandsForSome battle.old → StandsForSome battle.new }
+{
+    let index = numbers.index();
+    let bytes = numbers.numbers();
+    let header = battle.header_mut();
+    put_numbers(header, index, &bytes);
+}
+
+// Writes the numbers and the index of the one that is drawn next to the bytes of a header.
+fn put_numbers(header: &mut [u8], index: u8, numbers: &[u8])
+    requires header { length header.old ≡ 24 }
+    requires ten { length numbers.now ≡ 10 }
+    ensures numbers { IsStream (Link numbers.now) }
+    ensures written { header.new ≡ take 5 header.old ++ index ∷ numbers.now ++ drop 16 header.old }
+{
+    header[INDEX] = index;
+    header[NUMBERS..OUTCOME].copy_from_slice(numbers);
 }

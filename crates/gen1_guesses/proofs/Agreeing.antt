@@ -23,8 +23,8 @@ use Rattle.gen1_machine.specs.Step.{run, Ran}
 use Rattle.gen1_machine.specs.Valid.{IsMembersUnder, IsMemberUnder, IsStatus, IsParty, IsStarted, IsState, IsTerms, IsUnstarted}
 use Rattle.gen1_machine.specs.View.{shows, side_shows, Shown}
 use Rattle.gen1_machine.proofs.ValidStates.{first_states_are_valid, states_stay_valid}
-use Rattle.gen1_player.specs.declared.hp_form.HpForm.{HpForm}
-use Rattle.gen1_player.specs.declared.hp_form.HpForm.TheVariants.{Bar, Exact, Hundredths}
+use Rattle.gen1_player.specs.declared.teller.HpForm.{HpForm}
+use Rattle.gen1_player.specs.declared.teller.HpForm.TheVariants.{Bar, Exact, Hundredths}
 use Rattle.gen1_player.specs.declared.own.OwnSide.{OwnSide}
 use Rattle.gen1_player.specs.declared.player.Player.{Player}
 use Rattle.gen1_player.specs.declared.public.Public.{Public}
@@ -43,11 +43,9 @@ use Rattle.gen1_player.proofs.Members.{all-tellable, members_agree}
 use Rattle.gen1_player.proofs.Placing.{agrees}
 use Rattle.gen1_player.proofs.Slots.{meets_all-pixels}
 use Rattle.gen1_player.proofs.ToldPublic.{holds, met, FoeKept, Known}
-use Rattle.gen1_states.specs.Faults.{on as on_if}
-use Rattle.gen1_states.specs.Plain.{no_member}
+use Rattle.gen1_states.specs.Plain.{on as on_if, no_member}
 use Rattle.gen1_states.specs.declared.plain.MemberState.{MemberState}
-use Rattle.gen1_guesses.specs.Forks.{AgreesWithFork, ForksAgree, IsFork, IsGuess, HasPlayer, IsToldAs, TrueHpFits, clause_of, foe_part, own_part, allows_max}
-use Rattle.gen1_guesses.specs.Members.{is_on, fresh_members, hp_of, seen_in}
+use Rattle.gen1_guesses.specs.Forks.{AgreesWithFork, ForksAgree, IsFork, IsGuess, HasPlayer, IsToldAs, TrueHpFits, clause_of, foe_part, own_part, allows_max, is_on, fresh_members, hp_of, seen_in}
 use Rattle.gen1_guesses.specs.declared.guess.Guess.{Guess}
 use Rattle.gen1_guesses.proofs.OwnForked.{short-of, IsShort, appeared-alike, does-alike, lives-alike, own_poison, shows_at, told-alike, view-alike, Alike, own_alike, own_plain, same_shown, slot_of_own, stats_of_own, Shows, shows as shows_own, own_sleeps}
 use Rattle.gen1_guesses.proofs.FoeForked.{counted_if, foe_appeared, foe_does, foe_place, foe_told, foe_view, traps_on, and_same, exact, flag_of, guess_fits, on_is, told_there, Fits, Foe, IsFlag, foe_sleeps}

@@ -22,15 +22,13 @@ use Rattle.gen1_player.specs.declared.seen.Seen.{Seen}
 use Rattle.gen1_player.specs.declared.seen.SeenMove.{SeenMove}
 use Rattle.gen1_player.specs.Public.{new_uses, not_seen, not_used, seen_at, may_go_on}
 use Rattle.gen1_player.specs.True.{current_move_of, IsMoveOf, IsSeen, SideAgrees, SideDoes, SideHasAppeared, SideIsTold, IsAsleepBy, SideSleeps, HasCause}
-use Rattle.gen1_states.specs.Faults.{on as on_if, ◌▸◌}
-use Rattle.gen1_states.specs.Plain.{no_member}
+use Rattle.gen1_states.specs.Plain.{on as on_if, ◌▸◌, no_member}
 use Rattle.gen1_states.specs.Reading.{member_state}
 use Rattle.gen1_states.specs.declared.plain.ActiveState.{ActiveState}
 use Rattle.gen1_states.specs.declared.plain.MemberState.{MemberState}
-use Rattle.gen1_guesses.specs.Members.{foe_bits, is_on, used_slot, member_at as place_in, members_of, seen_in, sleep_of, told, told_if_seen, hp_of}
-use Rattle.gen1_guesses.specs.Forks.{foe_part, IsToldAs, at_index, id_in, knows as knows_move, tested, tested_member, tested_members, tested_use, tested_uses, unless, Tested, tested_hp}
-use Rattle.gen1_guesses.specs.declared.fault.GuessFault.{GuessFault}
-use Rattle.gen1_guesses.specs.declared.fault.GuessFault.TheVariants as faults
+use Rattle.gen1_guesses.specs.Forks.{foe_bits, is_on, used_slot, member_at as place_in, members_of, seen_in, sleep_of, told, told_if_seen, hp_of, foe_part, IsToldAs, at_index, id_in, knows as knows_move, tested, tested_member, tested_members, tested_use, tested_uses, unless, Tested, tested_hp}
+use Rattle.gen1_guesses.specs.declared.guess.GuessFault.{GuessFault}
+use Rattle.gen1_guesses.specs.declared.guess.GuessFault.TheVariants as faults
 use Rattle.gen1_guesses.proofs.OwnForked.{bit_back, bits_same, four, is-move, knows_used, shows_at, marked-by, turns-left, IsShort}
 use Rattle.gen1_guesses.proofs.ForkedStates.{below_or, current_is, few_moves, Holds}
 use Rattle.gen1_machine.specs.Action.{keeps_going}

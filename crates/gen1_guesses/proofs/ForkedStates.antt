@@ -6,8 +6,7 @@ use Rattle.gen1_player.specs.Public.{public_side}
 use Rattle.gen1_player.specs.declared.player.Player.{Player}
 use Rattle.gen1_player.specs.declared.public_side.PublicSide.{PublicSide}
 use Rattle.gen1_states.specs.declared.plain.MemberState.{MemberState}
-use Rattle.gen1_guesses.specs.Forks.{clause_of, forked, guessed_for, if_fits, foe_of, foe_request, guessed_state, in_order, own_of, IsFork, Tested, tested}
-use Rattle.gen1_guesses.specs.Members.{fresh_members, used_slot}
+use Rattle.gen1_guesses.specs.Forks.{clause_of, forked, guessed_for, if_fits, foe_of, foe_request, guessed_state, in_order, own_of, IsFork, Tested, tested, fresh_members, used_slot}
 use Rattle.gen1_guesses.specs.declared.guess.Guess.{Guess}
 use Rattle.std.specs.Prelude.{if◌then◌else◌, min}
 use Rattle.gen1_tables.specs.declared.effect.Stat.{Stat}
@@ -23,9 +22,8 @@ use Rattle.gen1_layout.specs.Parts.{parts_of}
 use Rattle.gen1_layout.specs.Shows.{Stands}
 use Rattle.gen1_layout.proofs.WaysBack.{now_fits}
 use Rattle.gen1_states.specs.Tests.{member_out, are_left, completed, completed_side, computed_stats, stat_at}
-use Rattle.gen1_states.specs.Bytes.{bytes_of}
+use Rattle.gen1_states.specs.Plain.{bytes_of, first_side, no_member, second_side}
 use Rattle.gen1_states.specs.Laws.{AreWords, IsPlain, IsPlainSide}
-use Rattle.gen1_states.specs.Plain.{first_side, second_side, no_member}
 use Rattle.gen1_states.specs.Reading.{side_state, state_of, active_state, member_state, no_active}
 use Rattle.gen1_states.specs.declared.plain.ActiveState.{ActiveState}
 use Rattle.gen1_states.specs.declared.plain.BattleState.{BattleState}
@@ -35,9 +33,9 @@ use Rattle.gen1_states.proofs.There.{not_zero}
 use Rattle.std.proofs.lemmas.Bool.Decides.{eqb_tells, nat_tests}
 use Rattle.std.proofs.lemmas.List.{get_or_past}
 use Rattle.gen1_tables.specs.Moves.{struggle}
-use Rattle.gen1_stats.specs.declared.known_move.KnownMove.{KnownMove}
-use Rattle.gen1_machine.specs.declared.picks.UsedMove.{UsedMove}
-use Rattle.gen1_machine.specs.declared.picks.UsedMove.TheVariants.{Nothing, Slot, Struggle}
+use Rattle.gen1_stats.specs.declared.member.KnownMove.{KnownMove}
+use Rattle.gen1_machine.specs.declared.side.UsedMove.{UsedMove}
+use Rattle.gen1_machine.specs.declared.side.UsedMove.TheVariants.{Nothing, Slot, Struggle}
 use Rattle.gen1_machine.specs.Picks.{number_in}
 use Rattle.gen1_machine.specs.Valid.{IsField, IsMembersUnder, IsParty, IsStarted, IsState, IsUnstarted, IsUsedMove}
 

@@ -4,12 +4,11 @@ use Rattle.std.specs.Prelude.{None, max, min, nat_le, if◌then◌else◌}
 use Rattle.std.proofs.Math.Nat.{add-mul, div-mul-le_self, mul-add}
 use Rattle.std.proofs.lemmas.Bool.Decides.{eqb_tells, leb_tells}
 use Rattle.std.proofs.lemmas.Nat.{div_below, le-div, mul-le}
-use Rattle.gen1_player.specs.declared.hp_form.HpForm.{HpForm}
-use Rattle.gen1_player.specs.declared.hp_form.HpForm.TheVariants.{Bar, Exact, Hundredths}
+use Rattle.gen1_player.specs.declared.teller.HpForm.{HpForm}
+use Rattle.gen1_player.specs.declared.teller.HpForm.TheVariants.{Bar, Exact, Hundredths}
 use Rattle.gen1_player.specs.Telling.{bar, bar_divisor, bar_factor, filled, form_of, hundredths, told_in, slot_of, IsInSlot, IsTeller}
 use Rattle.gen1_player.proofs.Retellings.{bar_few}
-use Rattle.gen1_guesses.specs.Forks.{ForksTellHp, IsToldAs, foe_part}
-use Rattle.gen1_guesses.specs.Members.{hp_of, seen_in, fresh_members, members_of, told, told_if_seen, foe_bits}
+use Rattle.gen1_guesses.specs.Forks.{ForksTellHp, IsToldAs, foe_part, hp_of, seen_in, fresh_members, members_of, told, told_if_seen, foe_bits}
 use Rattle.std.proofs.lemmas.List.{get_or-map, length-map, get_or_past}
 use Rattle.gen1_stats.specs.Members.{nobody, Member, nothing_known, IsBetween, IsFresh, IsTeam}
 use Rattle.gen1_machine.specs.declared.side.Side.{Side}
@@ -29,11 +28,11 @@ use Rattle.gen1_guesses.proofs.FoeForked.{exact, exact_in, exact_seen, effect_is
 use Rattle.std.proofs.lemmas.List.Elements.{All-get_or}
 use Rattle.gen1_tables.specs.declared.effect.Effect.{Effect}
 use Rattle.gen1_tables.specs.Effects.{bides, charges, rages}
-use Rattle.gen1_stats.specs.declared.known_move.KnownMove.{KnownMove}
+use Rattle.gen1_stats.specs.declared.member.KnownMove.{KnownMove}
 use Rattle.gen1_layout.specs.Loading.{effect_of_number}
 use Rattle.gen1_layout.proofs.Counts.{bits_of-is, bits_of-lt}
-use Rattle.gen1_machine.specs.declared.picks.UsedMove.{UsedMove}
-use Rattle.gen1_machine.specs.declared.picks.UsedMove.TheVariants.{Nothing, Slot, Struggle}
+use Rattle.gen1_machine.specs.declared.side.UsedMove.{UsedMove}
+use Rattle.gen1_machine.specs.declared.side.UsedMove.TheVariants.{Nothing, Slot, Struggle}
 use Rattle.gen1_machine.specs.Layout.{number_of_bits}
 use Rattle.gen1_machine.specs.Picks.{number_in}
 use Rattle.gen1_machine.specs.Rules.{Rules}

@@ -9,9 +9,9 @@ use Rattle.std.proofs.lemmas.Bool.Decides.{eqb_tells, nat_tests}
 use Rattle.gen1_tables.specs.Effects.{recharges}
 use Rattle.gen1_tables.specs.Moves.{move_row, move_rows, struggle}
 use Rattle.gen1_tables.specs.Types.{any, number_of}
-use Rattle.gen1_stats.specs.declared.known_move.KnownMove.{KnownMove}
-use Rattle.gen1_stats.specs.declared.status.Status.{Status}
-use Rattle.gen1_stats.specs.declared.status.Status.TheVariants.{Asleep, Burned, Frozen, Healthy, Paralysed, Poisoned}
+use Rattle.gen1_stats.specs.declared.member.KnownMove.{KnownMove}
+use Rattle.gen1_stats.specs.declared.member.Status.{Status}
+use Rattle.gen1_stats.specs.declared.member.Status.TheVariants.{Asleep, Burned, Frozen, Healthy, Paralysed, Poisoned}
 use Rattle.gen1_stats.specs.Members.{nobody, Member, is_living, is_marked}
 use Rattle.gen1_machine.specs.Conditions.{ActiveConditions}
 use Rattle.gen1_machine.specs.Moves.{move_at}
@@ -37,17 +37,15 @@ use Rattle.gen1_layout.proofs.WaysBack.{hp_fits_at, now_fits, stats_fit_at}
 use Rattle.gen1_player.specs.declared.own.OwnSide.{OwnSide}
 use Rattle.gen1_player.specs.Player.{not_shown_member}
 use Rattle.gen1_player.proofs.Fairness.{as_many, counted, have_species, shown_at as own_shown_at}
-use Rattle.gen1_states.specs.Faults.{on}
+use Rattle.gen1_states.specs.Plain.{on, no_member}
 use Rattle.gen1_states.specs.Tests.{are_left, completed_side, computed_stats, member_out}
 use Rattle.gen1_states.specs.Laws.{IsPlainMember, IsPlainSide}
-use Rattle.gen1_states.specs.Plain.{no_member}
 use Rattle.gen1_states.specs.Reading.{active_state as state_of_active, member_state, no_active, side_state, sleep_of as turns_of}
 use Rattle.gen1_states.specs.declared.plain.ActiveState.{ActiveState}
 use Rattle.gen1_states.specs.declared.plain.MemberState.{MemberState}
 use Rattle.gen1_states.specs.declared.plain.SideState.{SideState}
 use Rattle.gen1_states.proofs.There.{not_zero, packs_of}
-use Rattle.gen1_guesses.specs.Members.{used_slot, member_at as place_in, own_member as own_state, own_members, seen_in, mark_of, sleep_of, turns_left}
-use Rattle.gen1_guesses.specs.Forks.{own_part}
+use Rattle.gen1_guesses.specs.Forks.{used_slot, member_at as place_in, own_member as own_state, own_members, seen_in, mark_of, sleep_of, turns_left, own_part}
 use Rattle.gen1_guesses.proofs.ForkedStates.{words, below_or, current_is, few_moves, past_six, Holds}
 
 -- Conditions with the same number

@@ -4,8 +4,8 @@ ghost use Rattle.gen1_tables.specs.Effects.{bides, charges, rages, recharges, tr
 ghost use Rattle.gen1_layout.specs.Loading.{effect_of_number};
 ghost use Rattle.gen1_machine.specs.Layout.{number_of_bits};
 ghost use Rattle.gen1_machine.specs.Rules.{bit_of};
-ghost use Rattle.gen1_states.specs.Faults.{on};
-ghost use Rattle.gen1_guesses.specs.Members.{active_state, blocked_slot, foe_bits, foe_known, has, is_free, is_on, of_moves, own_known, used_slot};
+ghost use Rattle.gen1_states.specs.Plain.{on};
+ghost use Rattle.gen1_guesses.specs.Forks.{active_state, blocked_slot, foe_bits, foe_known, has, is_free, is_on, of_moves, own_known, used_slot};
 
 use gen1_player::{OwnSide, PublicSide};
 use gen1_states::{ActiveState, MemberState};

@@ -2,16 +2,14 @@
 ghost use Rattle.std.specs.Prelude.{IfErr, IfOk, IsErr, IsOk, Err, Ok, length, ◌↔◌, ◌≡◌, ◌≤◌};
 ghost use Rattle.gen1_layout.specs.LoadingLaws.{IsBattle, StandsForSome};
 ghost use Rattle.gen1_layout.specs.Parts.{parts_of};
-ghost use Rattle.gen1_states.specs.Bytes.{bytes_of};
+ghost use Rattle.gen1_states.specs.Plain.{bytes_of};
 ghost use Rattle.gen1_states.specs.Tests.{completed, fault_of};
 ghost use Rattle.gen1_guesses.specs.Forks.{ForksAgree, ForksTellHp, TrueHpFits, foe_part, foe_request, forked, guessed_for, guessed_state, in_order, own_part, side_of};
-ghost use Rattle.gen1_guesses.specs.declared.fault.GuessFault.TheVariants as faults;
+ghost use Rattle.gen1_guesses.specs.declared.guess.GuessFault.TheVariants as faults;
 
 use crate::active::{active_state, foe_known, is_on, own_known};
-use crate::fault::GuessFault;
-use crate::guess::Guess;
+use crate::guess::{Guess, GuessFault, test};
 use crate::members::{fresh_members, member_at, members_of, own_members};
-use crate::tests::test;
 use gen1_layout::Packed;
 use gen1_machine::Side;
 use gen1_player::{OwnSide, Player, PublicSide};

@@ -4,7 +4,7 @@ ghost use Rattle.gen1_machine.specs.State.{known_in};
 ghost use Rattle.gen1_stats.specs.Members.{nobody};
 ghost use Rattle.gen1_states.specs.Plain.{no_member};
 ghost use Rattle.gen1_states.specs.Reading.{member_state};
-ghost use Rattle.gen1_guesses.specs.Members.{fresh_members, hp_of, in_slot, least_hp, mark_of, member_at, members_of, own_at, own_member, own_members, pp_left, sleep_of, told, told_at, told_if_seen, turns_left, uses_of};
+ghost use Rattle.gen1_guesses.specs.Forks.{fresh_members, hp_of, in_slot, least_hp, mark_of, member_at, members_of, own_at, own_member, own_members, pp_left, sleep_of, told, told_at, told_if_seen, turns_left, uses_of};
 
 use gen1_player::{OwnMember, Seen, SeenMove};
 use gen1_states::MemberState;

@@ -9,7 +9,7 @@ use Rattle.gen1_layout.specs.Operations.{Does, between, Draws, DrawsWhere, anyth
 use Rattle.gen1_hits.specs.declared.known.Known.{Known}
 use Rattle.gen1_hits.specs.Knowing.{Remains, begun, knowing, ShowsKnown, ShowsOver, Leaves, beginning, just_begun, aware}
 use Rattle.gen1_tables.specs.declared.effect.Effect.{Effect}
-use Rattle.gen1_machine.specs.declared.picks.Pick.{Pick}
+use Rattle.gen1_machine.specs.declared.side.Pick.{Pick}
 use Rattle.gen1_machine.specs.declared.side.Side.{Side}
 use Rattle.gen1_machine.specs.Plans.{Doing, Plan}
 use Rattle.gen1_machine.specs.Ruling.{Ruling, ruling_of}

@@ -6,13 +6,13 @@ use Rattle.gen1_tables.specs.declared.effect.Effect.{Effect}
 use Rattle.gen1_tables.specs.declared.effect.Effect.TheVariants as effects
 use Rattle.gen1_tables.specs.Moves.{move_row, move_rows}
 use Rattle.gen1_rolls.specs.Streams.{Stream}
-use Rattle.gen1_stats.specs.declared.known_move.KnownMove.{KnownMove}
+use Rattle.gen1_stats.specs.declared.member.KnownMove.{KnownMove}
 use Rattle.gen1_stats.specs.Members.{nobody, nothing_known, IsBetween}
 use Rattle.gen1_machine.specs.declared.event.CantReason.{CantReason}
-use Rattle.gen1_machine.specs.declared.picks.Pick.{Pick}
-use Rattle.gen1_machine.specs.declared.picks.Pick.TheVariants.{Continue, Held, Idle, Use}
-use Rattle.gen1_machine.specs.declared.picks.UsedMove.{UsedMove}
-use Rattle.gen1_machine.specs.declared.picks.UsedMove.TheVariants.{Nothing, Slot, Struggle}
+use Rattle.gen1_machine.specs.declared.side.Pick.{Pick}
+use Rattle.gen1_machine.specs.declared.side.Pick.TheVariants.{Continue, Held, Idle, Use}
+use Rattle.gen1_machine.specs.declared.side.UsedMove.{UsedMove}
+use Rattle.gen1_machine.specs.declared.side.UsedMove.TheVariants.{Nothing, Slot, Struggle}
 use Rattle.gen1_machine.specs.declared.side.Side.{Side}
 use Rattle.gen1_machine.specs.State.{active_in, changed_active, member_in, underway_in, with_current_move, Field, Terms}
 use Rattle.gen1_tables.specs.Effects.{bides, thrashes, traps}

@@ -3,8 +3,8 @@
 use Rattle.std.specs.Prelude.{List, [], ◌∷◌, length, refl, slice_index_or, ◌≡◌, Option, if◌then◌else◌, map, min, nat_le, option_map, ℕ, ◌≤◌, Bool, false, nat_lt, not, true, ◌&&◌}
 use Rattle.std.proofs.Common.{sym}
 use Rattle.std.proofs.lemmas.List.FromFn.{fill_by_all}
-use Rattle.gen1_tables.specs.declared.element.Element.{Element}
-use Rattle.gen1_tables.specs.declared.element.Element.TheVariants.{Normal}
+use Rattle.gen1_tables.specs.declared.types.Element.{Element}
+use Rattle.gen1_tables.specs.declared.types.Element.TheVariants.{Normal}
 use Rattle.gen1_machine.specs.Damage.{DamageNumbers, before_types, times_factor, type_steps, vary}
 use Rattle.gen1_hits.specs.declared.damage_formula.Numbers.TheInside.{Inside}
 use Rattle.std.specs.List.{range_with_len}

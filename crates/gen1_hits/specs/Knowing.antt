@@ -14,7 +14,7 @@ use Rattle.gen1_machine.specs.Ruling.{Ruling, ruling_of}
 use Rattle.gen1_machine.specs.Landing.{breaks}
 use Rattle.gen1_hits.specs.declared.landing.Landed.{Landed}
 use Rattle.gen1_hits.specs.declared.landing.Landed.TheVariants.{Broke, Hp, Kept}
-use Rattle.gen1_events.specs.declared.untested.Seen.{Seen}
+use Rattle.gen1_events.specs.declared.sink.Seen.{Seen}
 use Rattle.gen1_events.specs.Fields.{IsHealth, IsWho, health_of, who_of}
 
 abbrev pub action_of : Known → Action

@@ -3,8 +3,8 @@
 use Rattle.std.specs.Prelude.{◌≡◌}
 use Rattle.gen1_layout.specs.Words.{Progress, Side, false}
 use Rattle.gen1_tables.specs.declared.effect.Effect.{Effect}
-use Rattle.gen1_machine.specs.declared.picks.Pick.{Pick}
-use Rattle.gen1_machine.specs.declared.picks.Pick.TheVariants.{Use}
+use Rattle.gen1_machine.specs.declared.side.Pick.{Pick}
+use Rattle.gen1_machine.specs.declared.side.Pick.TheVariants.{Use}
 use Rattle.gen1_machine.specs.State.{Terms}
 use Rattle.gen1_machine.specs.Plans.{Doing, IsPlanned, Plan, Plans}
 use Rattle.gen1_layout.specs.Operations.{Premise}

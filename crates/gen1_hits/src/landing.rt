@@ -1,12 +1,13 @@
-//! Where damage lands (docs/MECHANICS.md, "Landing"): on HP, or on a Substitute.
-ghost use Rattle.std.specs.Prelude.{◌≡◌};
-ghost use Rattle.gen1_layout.specs.Operations.{Does, DoesWhere, holding, learns, scene};
-ghost use Rattle.gen1_layout.specs.Words.{AddsAtMost, HasRoom, Reads, Some, conditions_in, false, nat_lt, other};
-ghost use Rattle.gen1_machine.specs.Progress.{only};
+//! Where damage lands: on HP, or on a Substitute. HP that the member that is out loses and gains, with their events
+//! (docs/MECHANICS.md, "Landing", "Order of events").
+ghost use Rattle.std.specs.Prelude.{◌&&◌, ◌≡◌};
+ghost use Rattle.gen1_machine.specs.Progress.{gain_hp, lose_hp, only};
 ghost use Rattle.gen1_machine.specs.Landing.{breaks, land_damage, land_on_hp, land_on_substitute};
-ghost use Rattle.gen1_hits.specs.Knowing.{has_broken, landed_on, with_break};
+ghost use Rattle.gen1_layout.specs.Operations.{Does, DoesWhere, holding, learns, scene};
+ghost use Rattle.gen1_layout.specs.Words.{AddsAtMost, Changes, Field, HasRoom, Reads, Setting, Some, Within, changed_member, conditions_in, false, healed_by, hurt_by, is_living, member_in, nat_lt, other};
+ghost use Rattle.gen1_hits.specs.Knowing.{Sees, has_broken, landed_on, with_break};
 
-use gen1_events::EventSink;
+use gen1_events::{EventSink, Seen, Untested};
 use gen1_layout::Packed;
 use gen1_machine::{DamageSource, Event, Side, Volatile};
 
@@ -107,4 +108,90 @@ pub fn land_on_hp<S: EventSink>(
     let taken = damage.min(battle.hp(target));
     battle.put_last_damage(taken);
     crate::lose_hp(battle, target, source, damage, events);
+}
+
+/// Takes `amount` HP from the member of `side` that is out, or all HP that it has (docs/MECHANICS.md, "Landing",
+/// "Residual damage").
+///
+/// If any HP are lost, it writes `Damage` with the health after it and the source. It needs one free place in
+/// `events`. Nothing else changes.
+#[inline(always)] // docs/SPEED.md, "Hints on inlining"
+pub fn lose_hp<S: EventSink>(
+    battle: &mut Packed,
+    side: Side,
+    source: DamageSource,
+    amount: u16,
+    events: &mut S,
+)
+    requires room { HasRoom S.room 1 events.old }
+    ensures shown { Does (scene S.tells battle events) false (lose_hp side source amount) }
+    ensures room { AddsAtMost S.room 1 events.old events.new }
+{
+    if !loses(battle, side, amount) {
+        return;
+    }
+    hurt(battle, side, amount);
+    events.push_untested(Untested::Damage(seen(battle, side), source));
+}
+
+// Whether a loss of this many HP takes any HP.
+fn loses(battle: &Packed, side: Side, amount: u16) -> bool
+    ensures stands { Reads battle.now result λ f.
+        (nat_lt 0 amount && is_living (member_in side f)) }
+{
+    0 < amount && 0 < battle.hp(side)
+}
+
+fn hurt(battle: &mut Packed, side: Side, amount: u16)
+    ensures stands { Changes battle.old battle.new (changed_member side (hurt_by amount)) }
+{
+    let left = battle.hp(side).saturating_sub(amount);
+    battle.put_hp(side, left);
+}
+
+/// Gives `amount` HP to the member of `side` that is out, or as many as it lacks (docs/MECHANICS.md, "Recoil, drain
+/// and explosion", "Residual damage").
+///
+/// If any HP are gained, it writes `Heal` with the health after it. It needs one free place in `events`. Nothing else
+/// changes.
+pub fn gain_hp<S: EventSink>(battle: &mut Packed, side: Side, amount: u16, events: &mut S)
+    requires room { HasRoom S.room 1 events.old }
+    ensures shown { Does (scene S.tells battle events) false (gain_hp side amount) }
+    ensures room { AddsAtMost S.room 1 events.old events.new }
+{
+    if !gains(battle, side, amount) {
+        return;
+    }
+    heal(battle, side, amount);
+    events.push_untested(Untested::Heal(seen(battle, side)));
+}
+
+// Whether a gain of this many HP gives any HP.
+fn gains(battle: &Packed, side: Side, amount: u16) -> bool
+    ensures stands { Reads battle.now result λ f.
+        (nat_lt 0 amount && nat_lt (member_in side f).hp (member_in side f).max) }
+{
+    0 < amount && battle.hp(side) < battle.max_hp(side)
+}
+
+fn heal(battle: &mut Packed, side: Side, amount: u16)
+    ensures stands { Changes battle.old battle.new (changed_member side (healed_by amount)) }
+{
+    let healed = battle.hp(side).saturating_add(amount);
+    let most = battle.max_hp(side);
+    battle.put_hp(side, healed.min(most));
+}
+
+// The member that is out, as an event reports it.
+#[inline(always)] // docs/SPEED.md, "Hints on inlining"
+fn seen(battle: &Packed, side: Side) -> Seen
+    ensures stands { (g : Setting) (f : Field) → Within g battle.now f → Sees side f result }
+{
+    Seen {
+        side,
+        species: battle.species_number(side),
+        hp: battle.hp(side),
+        max: battle.max_hp(side),
+        kind: battle.kind(side),
+    }
 }

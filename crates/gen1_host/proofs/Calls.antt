@@ -12,12 +12,12 @@ use Rattle.gen1_machine.specs.Sides.{other}
 use Rattle.gen1_machine.specs.State.{same_side}
 use Rattle.gen1_room.specs.Rooms.{due, submission_of}
 use Rattle.gen1_host.specs.declared.host.Host.{Host}
-use Rattle.gen1_host.specs.declared.reply.HostRefusal.{HostRefusal as Why}
-use Rattle.gen1_host.specs.declared.reply.HostRefusal.TheVariants as whys
-use Rattle.gen1_host.specs.declared.reply.Replied.{Replied}
-use Rattle.gen1_host.specs.declared.reply.Replied.TheVariants as replied
+use Rattle.gen1_host.specs.declared.host.HostRefusal.{HostRefusal as Why}
+use Rattle.gen1_host.specs.declared.host.HostRefusal.TheVariants as whys
+use Rattle.gen1_host.specs.declared.host.Replied.{Replied}
+use Rattle.gen1_host.specs.declared.host.Replied.TheVariants as replied
 use Rattle.gen1_host.specs.Table.{Agreed, Cancel, changed_by, Ended, ends_as, Expire, first_byte, first_due, Forfeited, has_none_to_cancel, HasChosen, HostReply, Kept, NotAllowed, NothingChosen, OfferDraw, OtherPair, Refused, reply_in_turn, reply_to_submission, submitted, Table, taken_back}
-use Rattle.gen1_host.specs.Replies.{why_of}
+use Rattle.gen1_host.specs.Messages.{why_of}
 use Rattle.gen1_host.specs.Hosts.{draw_byte, Follows, Hosts}
 
 -- what follows a reply

@@ -2,8 +2,8 @@
 use Rattle.std.proofs.Common.{[], Bool, List, None, Option, Some, ap, arith, false, if◌then◌else◌, inl, inr, is_some, length, nat_le, refl, subst, sym, true, ℕ, ◌&&◌, ◌*◌, ◌++◌, ◌+◌, ◌-◌, ◌<◌, ◌==◌, ◌∙◌, ◌∷◌, ◌≡◌, ◌≢◌, ◌≤◌, ◌⊎◌}
 use Rattle.std.proofs.lemmas.Bool.{eqb-true}
 use Rattle.std.proofs.lemmas.Bool.Decides.{eqb_tells, leb_tells}
-use Rattle.gen1_machine.specs.declared.choice.Choice.{Choice}
-use Rattle.gen1_machine.specs.declared.choice.Choice.TheVariants as choices
+use Rattle.gen1_machine.specs.declared.side.Choice.{Choice}
+use Rattle.gen1_machine.specs.declared.side.Choice.TheVariants as choices
 use Rattle.gen1_machine.specs.declared.event.Event.{Event}
 use Rattle.gen1_machine.specs.declared.side.Side.{Side}
 use Rattle.gen1_machine.specs.declared.side.Side.TheVariants.{One, Two}
@@ -19,7 +19,7 @@ use Rattle.gen1_layout.specs.LoadingLaws.{IsBattle, StandsForSome}
 use Rattle.gen1_layout.specs.Parts.{joined, parts_of, Parts}
 use Rattle.gen1_layout.specs.Shows.{blocks_of, Stands}
 use Rattle.gen1_layout.proofs.WaysBack.{parts-bytes_of}
-use Rattle.gen1_offers.specs.OfferedMask.{all_choices, choices_in, chosen_by, living_of, passing, switches}
+use Rattle.gen1_offers.specs.OfferedChoices.{all_choices, choices_in, chosen_by, living_of, passing, switches}
 use Rattle.gen1_offers.proofs.OfferedSet.{places_living}
 use Rattle.gen1_offers.proofs.MaskChoices.{chosen-picked, picked_ifs}
 use Rattle.gen1_room.specs.Rooms.{Counts, is_replaced, on_bench, pairs_left, submission_of}

@@ -5,7 +5,7 @@ use Rattle.std.proofs.lemmas.Bool.Decides.{nat_tests}
 use Rattle.gen1_rolls.specs.Steady.{Ring}
 use Rattle.gen1_machine.specs.declared.side.Side.{Side}
 use Rattle.gen1_machine.specs.declared.side.Side.TheVariants.{One, Two}
-use Rattle.gen1_machine.specs.declared.choice.Choice.{Choice}
+use Rattle.gen1_machine.specs.declared.side.Choice.{Choice}
 use Rattle.gen1_machine.specs.OfferedChoices.{offered}
 use Rattle.gen1_machine.specs.Room.{after, choice_by_byte, choice_made, chosen, Course, ended_by, first_made, is_asked_to_pass, advanced_to, AlreadyChosen, ChoiceNotOffered, reply_to, reply_to_choice, Stale, Submission, TurnedAway, Waiting, with_submission}
 use Rattle.gen1_machine.specs.State.{is_over, same_side, is_pass}
@@ -17,7 +17,7 @@ use Rattle.gen1_room.proofs.Rooms.{chosen_more, or_else}
 use Rattle.gen1_host.specs.Table.{after_row, Cancel, changed_by, current_pair, drawing, Ended, Ending, Expire, first_byte, first_due, Forfeit, goes_on, has_none_to_cancel, HasChosen, host_reply, HostReply, HouseRules, if_not_refused, is_by, is_closed, Kept, NotAllowed, NothingChosen, NotOffered, OfferDraw, OtherPair, Refused, reply_in_turn, reply_to_row, reply_to_submission, Row, Submit, submitted, Table, TableOver, taken_back, ends_as, Forfeited, Agreed}
 use Rattle.gen1_host.specs.Messages.{chosen_at, message, Sent, teller}
 use Rattle.gen1_host.specs.Secrecy.{ends_pair, is_hidden, Matches, Seen, seen_by, side_of}
-use Rattle.gen1_machine.specs.declared.choice.Choice.TheVariants as choices
+use Rattle.gen1_machine.specs.declared.side.Choice.TheVariants as choices
 
 -- Unless a row ends a pair, what a side sees after it follows from what it saw before.
 

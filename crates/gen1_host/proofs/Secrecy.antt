@@ -4,7 +4,7 @@ use Rattle.std.specs.Prelude.{if◌then◌else◌, is_none, not, map}
 use Rattle.gen1_rolls.specs.Steady.{Ring}
 use Rattle.gen1_machine.specs.declared.side.Side.{Side}
 use Rattle.gen1_machine.specs.declared.side.Side.TheVariants.{One, Two}
-use Rattle.gen1_machine.specs.declared.choice.Choice.{Choice}
+use Rattle.gen1_machine.specs.declared.side.Choice.{Choice}
 use Rattle.gen1_machine.specs.Room.{advanced_to, after, choice_made, chosen, Course, ended_by, first_made, is_asked_to_pass, reply_to, Submission, Waiting, with_submission}
 use Rattle.gen1_machine.specs.State.{is_over, is_pass, same_side}
 use Rattle.gen1_player.specs.declared.teller.Teller.{Teller}
@@ -16,7 +16,7 @@ use Rattle.gen1_host.proofs.QuietRows.{row_after, row_reply, same_number, seat, 
 use Rattle.gen1_machine.specs.declared.terms.Outcome.{Outcome}
 use Rattle.gen1_player.specs.OwnSide.{own_side, OwnSide}
 use Rattle.gen1_room.specs.Rooms.{submission_of}
-use Rattle.gen1_machine.specs.declared.choice.Choice.TheVariants as choices
+use Rattle.gen1_machine.specs.declared.side.Choice.TheVariants as choices
 
 -- A row that ends a pair: the reply to it, and whose choices are there after it.
 

@@ -6,7 +6,7 @@ use Rattle.std.proofs.lemmas.Bool.Decides.{nat_tests}
 use Rattle.gen1_machine.specs.declared.event.Event.{Event}
 use Rattle.gen1_machine.specs.declared.side.Side.{Side}
 use Rattle.gen1_machine.specs.Room.{Course, Reply, TurnedAway, choice_by_byte, choice_made, chosen, first_made, is_asked_to_pass, Submission}
-use Rattle.gen1_events.specs.declared.fault.LogFault.{LogFault}
+use Rattle.gen1_events.specs.declared.reader.LogFault.{LogFault}
 use Rattle.gen1_events.specs.Reader.{IsReading}
 use Rattle.gen1_events.proofs.Readings.{one_reading}
 use Rattle.gen1_player.specs.declared.teller.Teller.{Teller}
@@ -14,22 +14,22 @@ use Rattle.gen1_player.specs.Telling.{HasFault, meets_all, told_all, IsTeller}
 use Rattle.gen1_player.proofs.Retellings.{not_read}
 use Rattle.gen1_player.proofs.Slots.{meets_all-of, meets_all-pixels}
 use Rattle.gen1_room.specs.declared.plain.PlainRoom.{PlainRoom}
-use Rattle.gen1_room.specs.declared.reply.Submitted.{Submitted}
-use Rattle.gen1_room.specs.declared.reply.RoomRefusal.{RoomRefusal}
+use Rattle.gen1_room.specs.declared.submission.Submitted.{Submitted}
+use Rattle.gen1_room.specs.declared.submission.RoomRefusal.{RoomRefusal}
 use Rattle.gen1_room.specs.Rooms.{Keeps, reply_of_submitted, why_of}
 use Rattle.gen1_host.specs.declared.host.Host.{Host}
-use Rattle.gen1_host.specs.declared.reply.HostRefusal.{HostRefusal as Why}
-use Rattle.gen1_host.specs.declared.reply.Replied.{Replied}
+use Rattle.gen1_host.specs.declared.host.HostRefusal.{HostRefusal as Why}
+use Rattle.gen1_host.specs.declared.host.Replied.{Replied}
 use Rattle.gen1_host.specs.Table.{goes_on, host_reply, Table, has_none_to_cancel, is_by, taken_back}
-use Rattle.gen1_host.specs.Replies.{refusal_at, reply_to_submitted}
+use Rattle.gen1_host.specs.Messages.{refusal_at, reply_to_submitted}
 use Rattle.gen1_host.specs.Hosts.{Follows, Hosts}
 use Rattle.std.specs.List.{filter}
-use Rattle.gen1_machine.specs.declared.choice.Choice.{Choice}
+use Rattle.gen1_machine.specs.declared.side.Choice.{Choice}
 use Rattle.gen1_machine.specs.declared.side.Side.TheVariants.{One, Two}
 use Rattle.gen1_machine.specs.OfferedChoices.{offered}
 use Rattle.gen1_machine.specs.State.{same_side}
-use Rattle.gen1_room.specs.declared.reply.Submitted.TheVariants as submitted
-use Rattle.gen1_room.specs.declared.reply.RoomRefusal.TheVariants as whys
+use Rattle.gen1_room.specs.declared.submission.Submitted.TheVariants as submitted
+use Rattle.gen1_room.specs.declared.submission.RoomRefusal.TheVariants as whys
 
 -- the replies of a room
 

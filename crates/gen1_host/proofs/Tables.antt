@@ -6,20 +6,20 @@ use Rattle.gen1_machine.specs.declared.side.Side.TheVariants.{One, Two}
 use Rattle.gen1_machine.specs.Room.{chosen}
 use Rattle.gen1_machine.specs.State.{is_over}
 use Rattle.gen1_host.specs.declared.host.Host.{Host}
-use Rattle.gen1_host.specs.declared.reply.HostRefusal.{HostRefusal as Why}
-use Rattle.gen1_host.specs.declared.reply.HostRefusal.TheVariants.{Over}
-use Rattle.gen1_host.specs.declared.reply.Replied.{Replied}
+use Rattle.gen1_host.specs.declared.host.HostRefusal.{HostRefusal as Why}
+use Rattle.gen1_host.specs.declared.host.HostRefusal.TheVariants.{Over}
+use Rattle.gen1_host.specs.declared.host.Replied.{Replied}
 use Rattle.gen1_host.specs.Table.{after_row, Agreed, changed_by, Ending, Forfeited, HostReply, if_not_refused, is_closed, Refused, reply_in_turn, reply_to_row, Row, Table, TableOver, current_pair, first_byte}
 use Rattle.gen1_host.specs.Hosts.{ending_byte, Follows, Hosts, Takes, ending_number, result_at, result_by}
 use Rattle.gen1_host.specs.Messages.{is_awaited, event_of, last_events, message, outcome_by, outcome_of, own_at, own_by}
-use Rattle.gen1_machine.specs.declared.choice.Choice.{Choice}
+use Rattle.gen1_machine.specs.declared.side.Choice.{Choice}
 use Rattle.gen1_machine.specs.declared.terms.Outcome.{Outcome}
 use Rattle.gen1_machine.specs.Choices.{byte_of_choice}
 use Rattle.gen1_machine.specs.Valid.{IsOutcome}
 use Rattle.gen1_machine.specs.OfferedChoices.{offered}
 use Rattle.gen1_engine.specs.declared.result.BattleResult.{BattleResult}
 use Rattle.gen1_engine.specs.Update.{result_of}
-use Rattle.gen1_offers.specs.OfferedMask.{mask_of}
+use Rattle.gen1_offers.specs.OfferedChoices.{mask_of}
 use Rattle.gen1_player.specs.OwnSide.{own_side}
 use Rattle.gen1_player.proofs.Fairness.{fault_fits}
 use Rattle.gen1_machine.specs.declared.terms.Outcome.TheVariants as outcomes

@@ -7,7 +7,7 @@ use Rattle.gen1_machine.specs.State.{first_state, usual_terms}
 use Rattle.gen1_machine.proofs.WorkedRules.{tauros}
 use Rattle.gen1_player.specs.Telling.{told, told_all}
 use Rattle.gen1_host.specs.Table.{after_row, Ended, Forfeit, Kept, OfferDraw, Refused, replies_to, reply_to_row, Table, table_after, TableOver}
-use Rattle.gen1_player.specs.declared.hp_form.HpForm.TheVariants.{Bar}
+use Rattle.gen1_player.specs.declared.teller.HpForm.TheVariants.{Bar}
 use Rattle.gen1_host.specs.Hosts.{first_teller}
 use Rattle.gen1_host.specs.Messages.{message, notice}
 

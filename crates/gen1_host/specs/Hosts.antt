@@ -11,10 +11,10 @@ use Rattle.gen1_machine.specs.State.{State}
 use Rattle.gen1_events.specs.Reader.{IsReading}
 use Rattle.gen1_engine.specs.declared.result.BattleResult.{BattleResult}
 use Rattle.gen1_engine.specs.Update.{result_of}
-use Rattle.gen1_offers.specs.OfferedMask.{mask_of}
+use Rattle.gen1_offers.specs.OfferedChoices.{mask_of}
 use Rattle.gen1_player.specs.declared.teller.Teller.{Teller}
 use Rattle.gen1_player.specs.OwnSide.{plain_side}
-use Rattle.gen1_player.specs.declared.hp_form.HpForm.{HpForm}
+use Rattle.gen1_player.specs.declared.teller.HpForm.{HpForm}
 use Rattle.gen1_player.specs.Telling.{IsTeller, form_number}
 use Rattle.gen1_room.specs.declared.plain.PlainRoom.{PlainRoom}
 use Rattle.gen1_room.specs.Rooms.{IsMarked, Keeps, submission_of}
@@ -22,13 +22,12 @@ use Rattle.gen1_host.specs.declared.host.Host.{Host}
 use Rattle.gen1_host.specs.declared.host.HouseRules.{HouseRules as PlainRules}
 use Rattle.gen1_host.specs.declared.message.Message.{Message}
 use Rattle.gen1_host.specs.declared.message.Notice.{Notice as PlainNotice}
-use Rattle.gen1_host.specs.declared.reply.HostRefusal.{HostRefusal as Why}
-use Rattle.gen1_host.specs.declared.reply.Replied.{Replied}
-use Rattle.gen1_host.specs.declared.row.Row.{Row as PlainRow}
-use Rattle.gen1_host.specs.declared.row.Row.TheVariants as plain
+use Rattle.gen1_host.specs.declared.host.HostRefusal.{HostRefusal as Why}
+use Rattle.gen1_host.specs.declared.host.Replied.{Replied}
+use Rattle.gen1_host.specs.declared.submission.Row.{Row as PlainRow}
+use Rattle.gen1_host.specs.declared.submission.Row.TheVariants as plain
 use Rattle.gen1_host.specs.Table.{after_row, Agreed, Cancel, Ending, Expire, Forfeit, Forfeited, HostReply, HouseRules, if_not_refused, OfferDraw, reply_to_row, Row, Submit, Table, table_of}
-use Rattle.gen1_host.specs.Messages.{is_awaited, Notice, outcome_by, Sent}
-use Rattle.gen1_host.specs.Replies.{reply_of}
+use Rattle.gen1_host.specs.Messages.{is_awaited, Notice, outcome_by, Sent, reply_of}
 
 -- 1 or 2 for the side that has forfeited, 3 for a draw.
 abbrev pub ending_number : Ending → ℕ

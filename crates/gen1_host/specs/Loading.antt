@@ -1,7 +1,7 @@
 -- Which bytes are those of a host, and which test other bytes fail (docs/MECHANICS.md, "Hosts").
 use Rattle.std.specs.Prelude.{Bool, List, None, Ok, Err, Result, Some, false, take, true, ⊤, ℕ, ◌≡◌, ◌≤◌, ◌⊎◌}
 use Rattle.std.specs.List.{All}
-use Rattle.gen1_machine.specs.declared.choice.Choice.{Choice}
+use Rattle.gen1_machine.specs.declared.side.Choice.{Choice}
 use Rattle.gen1_machine.specs.declared.event.Event.{Event}
 use Rattle.gen1_machine.specs.declared.side.Side.{Side}
 use Rattle.gen1_machine.specs.declared.side.Side.TheVariants.{One, Two}

@@ -1,6 +1,6 @@
 -- What no message and no reply reveals (docs/MECHANICS.md, "Hosts"). Each law is the contract of a function in src/laws.rt.
 use Rattle.std.specs.Prelude.{Bool, List, None, Option, Some, [], false, if◌then◌else◌, map, not, true, ℕ, ◌==◌, ◌||◌, ◌≡◌, ◌∷◌, ◌⊎◌}
-use Rattle.gen1_machine.specs.declared.choice.Choice.{Choice}
+use Rattle.gen1_machine.specs.declared.side.Choice.{Choice}
 use Rattle.gen1_machine.specs.declared.side.Side.{Side}
 use Rattle.gen1_machine.specs.Room.{Submission}
 use Rattle.gen1_machine.specs.State.{same_side}

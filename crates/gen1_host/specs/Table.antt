@@ -3,7 +3,7 @@
 use Rattle.std.specs.Prelude.{Bool, List, None, Option, Some, [], if◌then◌else◌, is_none, is_some, not, ℕ, ◌+◌, ◌==◌, ◌||◌, ◌∷◌}
 use Rattle.std.specs.List.{filter}
 use Rattle.gen1_rolls.specs.Steady.{Ring}
-use Rattle.gen1_machine.specs.declared.choice.Choice.{Choice}
+use Rattle.gen1_machine.specs.declared.side.Choice.{Choice}
 use Rattle.gen1_machine.specs.declared.side.Side.{Side}
 use Rattle.gen1_machine.specs.Choices.{byte_of_choice}
 use Rattle.gen1_machine.specs.Room.{after, chosen, Course, is_asked_to_pass, Reply, reply_to, room_of, Submission}

@@ -8,8 +8,7 @@ ghost use Rattle.gen1_player.specs.Telling.{IsTeller};
 ghost use Rattle.gen1_room.specs.Rooms.{Counts, is_replaced, on_bench, pairs_left};
 ghost use Rattle.gen1_host.specs.Loading.{FailsTest, IsHost, IsLawful, IsLog, IsStated, IsStored, IsTested, Waits, in_version_three};
 
-use crate::host::Host;
-use crate::room::{NONE, is_pass, log_of};
+use crate::host::{Host, NONE, is_pass, log_of};
 use gen1_engine::packed::{count_of, result as battle_result};
 use gen1_layout::{LoadFault, Packed};
 use gen1_machine::{Choice, Request, Side};

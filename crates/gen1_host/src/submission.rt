@@ -1,17 +1,20 @@
-//! Choices at a table: submitted, taken back, and made when time has run out (docs/MECHANICS.md, "Hosts").
-ghost use Rattle.std.specs.Prelude.{List, None, OnErr, false, length, ◌≡◌, ◌≤◌};
+//! Choices at a table: submitted, taken back, and made when time has run out; how a table ends before its battle does;
+//! and all of this as rows that are written down (docs/MECHANICS.md, "Hosts").
+ghost use Rattle.std.specs.Prelude.{List, None, OnErr, false, length, map, ◌≡◌, ◌≤◌};
 ghost use Rattle.gen1_machine.specs.declared.event.Event.{Event};
 ghost use Rattle.gen1_machine.specs.Room.{Course, is_asked_to_pass};
-ghost use Rattle.gen1_events.specs.Reader.{IsReading};
 ghost use Rattle.gen1_machine.specs.declared.side.Side.{Side};
+ghost use Rattle.gen1_events.specs.Reader.{IsReading};
 ghost use Rattle.gen1_player.specs.Telling.{IsTeller, meets_all};
 ghost use Rattle.gen1_room.specs.Rooms.{Keeps, submission_of};
-ghost use Rattle.gen1_host.specs.Table.{Cancel, Expire, Submit, Table, goes_on, has_none_to_cancel, reply_to_submission, submitted, taken_back};
-ghost use Rattle.gen1_host.specs.Hosts.{Follows, Hosts, IsRoomWithin, IsWithin, Takes};
+ghost use Rattle.gen1_host.specs.Table.{Cancel, Expire, Forfeit, OfferDraw, Submit, Table, goes_on, has_none_to_cancel, replies_to, reply_to_submission, submitted, table_after, taken_back};
+ghost use Rattle.gen1_host.specs.Hosts.{Follows, Hosts, IsRoomWithin, IsWithin, Takes, row_at};
+ghost use Rattle.gen1_host.specs.Messages.{reply_of};
 
-use crate::host::{Host, is_closed};
-use crate::reply::{HostRefusal, HostReply, Replied, refusal_of, reply_to};
-use crate::room::{NONE, copy_of, draw_from, first_due, has_chosen, is_asked_to_pass, log_of};
+use crate::host::{
+    AGREED, Host, HostRefusal, HostReply, NONE, Replied, copy_of, draw_from, first_due, has_chosen,
+    is_asked_to_pass, is_closed, log_of, refusal_of, reply_to,
+};
 use gen1_machine::Side;
 use gen1_player::Teller;
 use gen1_rolls::LinkRandom;
@@ -159,4 +162,99 @@ pub fn expire(host: &mut Host, side: Side, number: u32, numbers: &Option<LinkRan
     }
     let byte = first_due(&host.room, side);
     submit_now(host, side, number, byte, numbers)
+}
+
+/// Ends the table by a forfeit: the other side wins. The battle doesn't change.
+pub fn forfeit(host: &mut Host, side: Side) -> HostReply
+    ensures takes { (t : Table) → Hosts host.old t → Takes (Forfeit side) t host.new result }
+    ensures within { IsWithin host.old → IsWithin host.new }
+    ensures refused { OnErr result (host.new ≡ host.old) }
+{
+    if is_closed(host) {
+        return Err(HostRefusal::Over);
+    }
+    host.ending = side.number();
+    Ok(Replied::Ended)
+}
+
+/// Offers a draw, or accepts the one that the other side offers: then the table ends in a tie, and the battle doesn't change. An
+/// offer lasts until the current pair has ended.
+pub fn offer_draw(host: &mut Host, side: Side) -> HostReply
+    ensures takes { (t : Table) → Hosts host.old t → Takes (OfferDraw side) t host.new result }
+    ensures within { IsWithin host.old → IsWithin host.new }
+    ensures refused { OnErr result (host.new ≡ host.old) }
+{
+    if is_closed(host) {
+        return Err(HostRefusal::Over);
+    }
+    if host.draw == side.other().number() {
+        host.ending = AGREED;
+        return Ok(Replied::Ended);
+    }
+    host.draw = side.number();
+    Ok(Replied::Kept)
+}
+
+/// What happens at a table. If a row has numbers, the battle draws them from then on; otherwise it draws on as before.
+#[derive(Clone, Copy, Debug, PartialEq, Eq, Drop)]
+pub enum Row {
+    /// A side submits the byte of its choice for the pair with this number.
+    Submit {
+        side: Side,
+        number: u32,
+        byte: u8,
+        numbers: Option<LinkRandom>,
+    },
+    /// A side takes its choice for this pair back.
+    Cancel {
+        side: Side,
+        number: u32,
+    },
+    /// A side's time for this pair has run out.
+    Expire {
+        side: Side,
+        number: u32,
+        numbers: Option<LinkRandom>,
+    },
+    /// A side offers a draw, or accepts one.
+    OfferDraw(Side),
+    Forfeit(Side),
+}
+
+/// Applies a row to a table, by the call of its name. A refusal changes nothing, with any bytes of the host.
+pub fn apply(host: &mut Host, row: &Row) -> HostReply
+    ensures takes { (t : Table) → Hosts host.old t → Takes (row_at row.now) t host.new result }
+    ensures within { IsWithin host.old → IsWithin host.new }
+    ensures refused { OnErr result (host.new ≡ host.old) }
+{
+    match row {
+        Row::Submit {
+            side,
+            number,
+            byte,
+            numbers,
+        } => submit(host, *side, *number, *byte, numbers),
+        Row::Cancel { side, number } => cancel(host, *side, *number),
+        Row::Expire {
+            side,
+            number,
+            numbers,
+        } => expire(host, *side, *number, numbers),
+        Row::OfferDraw(side) => offer_draw(host, *side),
+        Row::Forfeit(side) => forfeit(host, *side),
+    }
+}
+
+/// Applies rows in order, and writes the reply to each at its index. A table that begins in the same way and takes the rows that were
+/// written down is again where it was.
+pub fn run(host: &mut Host, rows: &[Row], replies: &mut [HostReply])
+    requires same_length { length rows.now ≡ length replies.old }
+    ensures hosts { (t : Table) → Hosts host.old t → Hosts host.new (table_after (map row_at rows.now) t) }
+    ensures replies { (t : Table) → Hosts host.old t
+        → map reply_of replies.new ≡ replies_to (map row_at rows.now) t }
+    ensures within { IsWithin host.old → IsWithin host.new }
+{
+    for (place, row) in rows.iter().enumerate() {
+        replies[place] = apply(host, row);
+    }
 }

@@ -13,7 +13,7 @@ use Rattle.gen1_layout.specs.Words.{any_at, holds_or_any_at, set_at, SameNumbers
 use Rattle.std.proofs.lemmas.List.{set-append_left, set-append_right}
 use Rattle.gen1_stats.specs.Members.{Member}
 use Rattle.std.specs.Prelude.{if◌then◌else◌}
-use Rattle.gen1_machine.specs.declared.picks.DisabledSlot.{DisabledSlot}
+use Rattle.gen1_machine.specs.declared.side.DisabledSlot.{DisabledSlot}
 use Rattle.gen1_machine.specs.Conditions.{ActiveConditions, Storing, Underway}
 use Rattle.gen1_machine.specs.State.{Active}
 use Rattle.gen1_layout.specs.Parts.{turns_stored}

@@ -3,7 +3,7 @@ use Rattle.std.proofs.Common.{ap, arith, get_or, map, refl, ℕ, ◌+◌, ◌<�
 use Rattle.std.specs.List.{range_with_len}
 use Rattle.std.proofs.lemmas.List.FromFn.{get_or-range_with_len}
 use Rattle.gen1_tables.proofs.Named.{agree_at}
-use Rattle.gen1_tables.specs.declared.element.Element.{Element}
+use Rattle.gen1_tables.specs.declared.types.Element.{Element}
 use Rattle.gen1_layout.specs.Parts.{element_of}
 use Rattle.gen1_layout.specs.declared.codes.TheConstants.{ELEMENTS}
 

@@ -3,13 +3,13 @@ use Rattle.gen1_layout.proofs.Words.{Active, ActiveConditions, Bool, DisabledSlo
 use Rattle.std.proofs.Common.{drop, if◌then◌else◌, unwrap_or, ◌%◌, ◌&&◌, ◌*◌, ◌+◌, ◌-◌, ◌/◌, ◌<◌, ◌==◌, ◌||◌, ◌∷◌, ◌≡◌, ◌≤◌}
 use Rattle.std.proofs.lemmas.List.{get_or-drop, get_or-take}
 use Rattle.std.specs.Int.{bit_at}
-use Rattle.gen1_tables.specs.declared.element.Element.{Element}
-use Rattle.gen1_tables.specs.declared.element.Element.TheVariants.{Normal, Fighting, Flying, Poison, Ground, Rock, Bug, Ghost, Fire, Water, Grass, Electric, Psychic, Ice, Dragon}
+use Rattle.gen1_tables.specs.declared.types.Element.{Element}
+use Rattle.gen1_tables.specs.declared.types.Element.TheVariants.{Normal, Fighting, Flying, Poison, Ground, Rock, Bug, Ghost, Fire, Water, Grass, Electric, Psychic, Ice, Dragon}
 use Rattle.gen1_tables.specs.declared.effect.Effect.TheVariants as effects
 use Rattle.gen1_tables.specs.Moves.{move_row, move_rows}
 use Rattle.gen1_tables.specs.Types.{number_of}
-use Rattle.gen1_machine.specs.declared.picks.UsedMove.{UsedMove}
-use Rattle.gen1_machine.specs.declared.picks.UsedMove.TheVariants.{Nothing, Slot, Struggle}
+use Rattle.gen1_machine.specs.declared.side.UsedMove.{UsedMove}
+use Rattle.gen1_machine.specs.declared.side.UsedMove.TheVariants.{Nothing, Slot, Struggle}
 use Rattle.gen1_machine.specs.Rules.{rules_of}
 use Rattle.gen1_machine.specs.Conditions.{Storing}
 use Rattle.gen1_machine.specs.Layout.{active_block, condition_bits, conditions_number, disabled_slot, disabled_turns, energy_of, high_byte, low_byte, member_block, member_blocks, turns_byte, turns_of, used_byte}

@@ -7,7 +7,7 @@ use Rattle.std.specs.Int.{bit_at}
 use Rattle.std.proofs.lemmas.Nat.Bits.{bit_at-suc, bit_at-zero, bit_at_lowest}
 use Rattle.gen1_machine.specs.Rules.{bit_of}
 use Rattle.gen1_machine.specs.Layout.{number_of_bits, member_block, member_blocks, active_block, active_block_of, bytes_of, header_block, party_bytes}
-use Rattle.gen1_stats.specs.declared.known_move.KnownMove.{KnownMove}
+use Rattle.gen1_stats.specs.declared.member.KnownMove.{KnownMove}
 use Rattle.gen1_stats.specs.Members.{nobody, nothing_known, IsBetween, Member}
 use Rattle.gen1_machine.specs.State.{known_in, member_at, Party, State}
 use Rattle.gen1_layout.specs.Loading.{member_bytes, places_of, active_bytes, header_of, side_one, side_two}

@@ -4,9 +4,9 @@ use Rattle.std.proofs.Common.{All, AllPairs, drop, not, replicate, take, ◌≢�
 use Rattle.std.proofs.lemmas.Bool.{eqb-true}
 use Rattle.std.proofs.lemmas.List.{take-replicate}
 use Rattle.std.proofs.lemmas.List.Elements.{All-cons, All-head, All-nil, All-replicate, All-tail}
-use Rattle.gen1_stats.specs.declared.known_move.KnownMove.{KnownMove}
-use Rattle.gen1_stats.specs.declared.status.Status.{Status}
-use Rattle.gen1_stats.specs.declared.status.Status.TheVariants.{Healthy, Asleep, Poisoned, Burned, Frozen, Paralysed}
+use Rattle.gen1_stats.specs.declared.member.KnownMove.{KnownMove}
+use Rattle.gen1_stats.specs.declared.member.Status.{Status}
+use Rattle.gen1_stats.specs.declared.member.Status.TheVariants.{Healthy, Asleep, Poisoned, Burned, Frozen, Paralysed}
 use Rattle.gen1_stats.specs.Members.{is_left_out, is_marked, IsKnown}
 use Rattle.gen1_machine.specs.Rules.{bit_of, rules_of}
 use Rattle.gen1_machine.specs.Layout.{high_byte, low_byte, member_block, member_blocks, status_byte}

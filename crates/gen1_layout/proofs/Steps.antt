@@ -16,7 +16,7 @@ use Rattle.gen1_machine.specs.Rules.{Rules}
 use Rattle.gen1_machine.specs.Conditions.{ActiveConditions}
 use Rattle.gen1_machine.specs.Valid.{IsMemberUnder, IsOutcome, IsMembersUnder}
 use Rattle.std.proofs.lemmas.Bool.{cases_eq}
-use Rattle.gen1_stats.specs.declared.known_move.KnownMove.{KnownMove}
+use Rattle.gen1_stats.specs.declared.member.KnownMove.{KnownMove}
 
 -- The contents of each part when the parts represent a field, and what a replaced block represents.
 

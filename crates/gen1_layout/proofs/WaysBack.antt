@@ -6,13 +6,13 @@ use Rattle.std.proofs.lemmas.List.{get_or-append_right, get_or-replicate, get_or
 use Rattle.std.proofs.lemmas.List.Elements.{All-get_or}
 use Rattle.byteorder.specs.Endian.{little_number}
 use Rattle.byteorder.specs.Numbers.{little_number-reads_back}
-use Rattle.gen1_tables.specs.declared.element.Element.{Element}
-use Rattle.gen1_tables.specs.declared.element.Element.TheVariants.{Normal, Fighting, Flying, Poison, Ground, Rock, Bug, Ghost, Fire, Water, Grass, Electric, Psychic, Ice, Dragon}
+use Rattle.gen1_tables.specs.declared.types.Element.{Element}
+use Rattle.gen1_tables.specs.declared.types.Element.TheVariants.{Normal, Fighting, Flying, Poison, Ground, Rock, Bug, Ghost, Fire, Water, Grass, Electric, Psychic, Ice, Dragon}
 use Rattle.gen1_tables.specs.Types.{number_of, any}
 use Rattle.gen1_tables.specs.declared.effect.Stat.{Stat}
 use Rattle.gen1_tables.specs.declared.effect.Stat.TheVariants.{Attack, Defense, Speed, Special, Accuracy, Evasion}
-use Rattle.gen1_stats.specs.declared.status.Status.{Status}
-use Rattle.gen1_stats.specs.declared.status.Status.TheVariants.{Healthy, Asleep, Poisoned, Burned, Frozen, Paralysed}
+use Rattle.gen1_stats.specs.declared.member.Status.{Status}
+use Rattle.gen1_stats.specs.declared.member.Status.TheVariants.{Healthy, Asleep, Poisoned, Burned, Frozen, Paralysed}
 use Rattle.std.proofs.lemmas.Bool.Decides.{nat_tests}
 use Rattle.std.specs.Prelude.{if◌then◌else◌, ◌&&◌, ◌||◌}
 use Rattle.gen1_stats.specs.Members.{is_living, is_marked, nobody, IsBetween, Member}
@@ -20,8 +20,8 @@ use Rattle.gen1_machine.specs.declared.side.Side.{Side}
 use Rattle.gen1_machine.specs.declared.side.Side.TheVariants.{One, Two}
 use Rattle.gen1_machine.specs.declared.terms.Outcome.{Outcome}
 use Rattle.gen1_machine.specs.declared.terms.Request.{Request}
-use Rattle.gen1_machine.specs.declared.picks.UsedMove.{UsedMove}
-use Rattle.gen1_machine.specs.declared.picks.UsedMove.TheVariants.{Nothing, Slot, Struggle}
+use Rattle.gen1_machine.specs.declared.side.UsedMove.{UsedMove}
+use Rattle.gen1_machine.specs.declared.side.UsedMove.TheVariants.{Nothing, Slot, Struggle}
 use Rattle.gen1_machine.specs.Rules.{bit_of, bits_of_rules, rules_of, Rules}
 use Rattle.gen1_machine.specs.State.{known_in, member_at, member_in, party, Active, Field, Party, State, Terms}
 use Rattle.gen1_machine.specs.CurrentStats.{now}

@@ -4,8 +4,8 @@ pub use Rattle.std.proofs.lemmas.Bool.Decides.{nat_tests}
 pub use Rattle.gen1_stats.specs.Members.{IsBetween, Member, nobody}
 pub use Rattle.gen1_machine.specs.declared.side.Side.{Side}
 pub use Rattle.gen1_machine.specs.declared.event.Event.{Event}
-pub use Rattle.gen1_machine.specs.declared.health.Who.{Who}
-pub use Rattle.gen1_machine.specs.declared.picks.DisabledSlot.{DisabledSlot}
+pub use Rattle.gen1_machine.specs.declared.event.Who.{Who}
+pub use Rattle.gen1_machine.specs.declared.side.DisabledSlot.{DisabledSlot}
 pub use Rattle.gen1_machine.specs.Conditions.{ActiveConditions}
 pub use Rattle.gen1_machine.specs.State.{Active, Field, active_in, conditions_in, health_in, known_in, member_in, party, underway_in, who_in}
 unfoldable pub use Rattle.gen1_machine.specs.State.{changed_active, changed_conditions, changed_member, with_last_damage}

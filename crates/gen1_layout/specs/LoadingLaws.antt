@@ -2,7 +2,7 @@
 -- "Loading").
 use Rattle.std.specs.Prelude.{List, length, slice_index, slice_index_or, slice_range, ℕ, ◌++◌, ◌-◌, ◌<◌, ◌≡◌, ◌≤◌, true, ◌↔◌}
 use Rattle.gen1_rolls.specs.Streams.{IsStream, Link}
-use Rattle.gen1_stats.specs.declared.status.Status.TheVariants.{Healthy}
+use Rattle.gen1_stats.specs.declared.member.Status.TheVariants.{Healthy}
 use Rattle.gen1_stats.specs.Members.{nobody, IsBetween, Member, is_living, IsMember}
 use Rattle.gen1_machine.specs.Rules.{Rules, rules_of}
 use Rattle.gen1_machine.specs.State.{Active, State, member_at}

@@ -2,7 +2,7 @@
 -- of an update. An operation is described by its phase (`Operations.antt`).
 use Rattle.std.specs.Prelude.{None, Option, Some, is_some, length, ℕ, ◌+◌, ◌≤◌, List, ◌≡◌, Bool, false, [], ◌∷◌}
 use Rattle.gen1_stats.specs.Members.{IsBetween, Member}
-use Rattle.gen1_machine.specs.declared.picks.DisabledSlot.{DisabledSlot}
+use Rattle.gen1_machine.specs.declared.side.DisabledSlot.{DisabledSlot}
 use Rattle.gen1_machine.specs.Rules.{bit_of, Rules}
 use Rattle.gen1_machine.specs.Conditions.{ActiveConditions, Storing, Underway}
 use Rattle.gen1_machine.specs.State.{member_at, Active, Field, Party, Terms, State, nobody_out}
@@ -13,7 +13,7 @@ use Rattle.gen1_layout.specs.Parts.{Parts, SideParts}
 use Rattle.gen1_rolls.specs.Draws.{Drawing, Source, StandsIn}
 use Rattle.gen1_machine.specs.declared.event.Event.{Event}
 use Rattle.gen1_machine.specs.Progress.{Action, Progress}
-use Rattle.gen1_tables.specs.declared.element.Element.{Element}
+use Rattle.gen1_tables.specs.declared.types.Element.{Element}
 use Rattle.gen1_tables.specs.declared.effect.Stat.TheVariants.{Attack, Defense, Special, Speed}
 use Rattle.gen1_machine.specs.CurrentStats.{now}
 

@@ -1,10 +1,9 @@
-//! Reading a battle from bytes (docs/LAYOUT.md, "Loading").
-ghost use Rattle.std.specs.Prelude.{◌≡◌, ◌↔◌, IfOk, IsOk, Some};
-ghost use Rattle.gen1_layout.specs.Loading.{number_of, words_of, IsLoadedAs, IsReadAs};
+//! Reading a battle from bytes (docs/LAYOUT.md, "Loading", "The 384 bytes of a battle").
+ghost use Rattle.std.specs.Prelude.{All, IfOk, IsOk, IsTrue, Some, length, ◌+◌, ◌↔◌, ◌≡◌, ◌≤◌};
+ghost use Rattle.gen1_layout.specs.Loading.{IsLoadedAs, IsReadAs, active_bytes, long, member_bytes, number_of, word, words_of};
 ghost use Rattle.gen1_layout.specs.LoadingLaws.{IsBattle, StandsForSome};
 
 mod active;
-mod bytes;
 mod header;
 pub mod laws;
 mod member;
@@ -13,6 +12,7 @@ mod stats;
 
 use crate::Packed;
 use crate::offsets::VERSION;
+use byteorder::{ByteOrder, LittleEndian};
 use std::error::Error;
 use std::fmt;
 
@@ -126,4 +126,48 @@ fn tested(bytes: &[u8]) -> Result<[u8; 384], LoadFault>
         return Err(LoadFault::Request);
     }
     Ok(form)
+}
+
+// The number of two bytes, the low one first.
+pub(crate) fn word(bytes: &[u8], at: usize) -> u16
+    requires { at + 2 ≤ length bytes.now }
+    ensures { result ≡ word bytes.now at }
+{
+    LittleEndian::read_u16(&bytes[at..at + 2])
+}
+
+// The number of four bytes, the lowest first.
+pub(crate) fn long(bytes: &[u8], at: usize) -> u32
+    requires { at + 4 ≤ length bytes.now }
+    ensures { result ≡ long bytes.now at }
+{
+    LittleEndian::read_u32(&bytes[at..at + 4])
+}
+
+// The bytes of the place for a member, 1 to 6.
+pub(crate) fn member_bytes(side: &[u8], place: u8) -> &[u8]
+    requires side { length side.now ≡ 180 }
+    requires first { 1 ≤ place }
+    requires last { place ≤ 6 }
+    ensures value { result.now ≡ member_bytes place side.now }
+    ensures len { length result.now ≡ 24 }
+{
+    let start = 24 * (place as usize - 1);
+    &side[start..start + 24]
+}
+
+// The bytes of the active block.
+pub(crate) fn active_bytes(side: &[u8]) -> &[u8]
+    requires side { length side.now ≡ 180 }
+    ensures value { result.now ≡ active_bytes side.now }
+    ensures len { length result.now ≡ 36 }
+{
+    &side[144..180]
+}
+
+// Whether all bytes are 0.
+pub(crate) fn are_zero(bytes: &[u8]) -> bool
+    ensures { IsTrue result ↔ All (λ byte. byte ≡ 0) bytes.now }
+{
+    bytes.iter().all(|byte| *byte == 0)
 }

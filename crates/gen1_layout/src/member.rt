@@ -3,7 +3,7 @@ ghost use Rattle.std.specs.Prelude.{◌-◌, ◌≡◌, ◌≤◌};
 ghost use Rattle.gen1_layout.specs.Words.{Field, Member, Reads, ReadsPacked, Setting, Within, WritesMember, WritesMemberIf, active_in, changed_member, is_living, known_in, length, member_at, member_in, party, slice_set, unmodified};
 ghost use Rattle.gen1_tables.specs.Types.{any};
 ghost use Rattle.gen1_stats.specs.Members.{is_marked};
-ghost use Rattle.gen1_stats.specs.declared.status.Status.TheVariants.{Healthy};
+ghost use Rattle.gen1_stats.specs.declared.member.Status.TheVariants.{Healthy};
 ghost use Rattle.gen1_machine.specs.State.{has_fallen_in};
 ghost use Rattle.gen1_machine.specs.Valid.{IsStatus};
 ghost use Rattle.gen1_layout.specs.Shows.{own_stats_of};

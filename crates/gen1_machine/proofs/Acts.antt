@@ -24,11 +24,11 @@ use Rattle.gen1_machine.proofs.Tame.{accuracy-tame, with_trapping_one_less-tame,
 use Rattle.gen1_machine.proofs.Sound.{choose-leads_sees, choose-sees, told-leads, planned-sound, planned-tied, Sound, leads-from, on_conditions-leads, IsMove, LowersSome, given-sees, party-valid, planned-holds, replanned, taken-up, with_plan-is, is-move}
 use Rattle.gen1_machine.proofs.SoundWalk.{build_rage-sound, damage_of-sound, fail-sound, conditions-spared, confuse-sound, count_hit-sound, disable-sound, drain-sound, draw_count-sound, explode-sound, kept_away_effect-sound, land-sound, lower_foes_stat-sound, may_confuse-sound, missed-spared, missed_move-sound, note_first_hit-sound, note_hit_count-sound, plan_hits-sound, put_to_sleep-sound, raise_stage-sound, recoil-sound, set_planned-sound, early_effect-sound, gate_or_held-sound, ruling-sound, see_if_going_on-sound}
 use Rattle.gen1_rolls.specs.Streams.{Stream}
-use Rattle.gen1_stats.specs.declared.known_move.KnownMove.{KnownMove}
-use Rattle.gen1_machine.specs.declared.picks.Pick.{Pick}
-use Rattle.gen1_machine.specs.declared.picks.Pick.TheVariants.{Use}
-use Rattle.gen1_machine.specs.declared.picks.UsedMove.{UsedMove}
-use Rattle.gen1_machine.specs.declared.picks.UsedMove.TheVariants.{Nothing, Slot, Struggle}
+use Rattle.gen1_stats.specs.declared.member.KnownMove.{KnownMove}
+use Rattle.gen1_machine.specs.declared.side.Pick.{Pick}
+use Rattle.gen1_machine.specs.declared.side.Pick.TheVariants.{Use}
+use Rattle.gen1_machine.specs.declared.side.UsedMove.{UsedMove}
+use Rattle.gen1_machine.specs.declared.side.UsedMove.TheVariants.{Nothing, Slot, Struggle}
 use Rattle.gen1_machine.specs.declared.side.Side.TheVariants.{One, Two}
 use Rattle.gen1_machine.specs.Rules.{Rules}
 use Rattle.gen1_machine.specs.Picks.{number_in, used_by}

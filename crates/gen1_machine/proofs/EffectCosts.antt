@@ -1,15 +1,15 @@
 -- The costs of the gate, the landing, the hit test, and of moves except for their damage.
 use Rattle.std.proofs.Common.{Bool, None, Option, Some, false, if◌then◌else◌, length, lit≤, refl, true, ℕ, ◌≤◌, true≢false, List, ◌≡◌, [], arith, sym, suc, zero, ◌&&◌, ◌-◌, ◌∷◌, nat_le}
-use Rattle.gen1_stats.specs.declared.status.Status.{Status}
-use Rattle.gen1_stats.specs.declared.status.Status.TheVariants.{Asleep}
+use Rattle.gen1_stats.specs.declared.member.Status.{Status}
+use Rattle.gen1_stats.specs.declared.member.Status.TheVariants.{Asleep}
 use Rattle.gen1_machine.specs.declared.side.Side.{Side}
-use Rattle.gen1_machine.specs.declared.health.Kind.{Kind}
-use Rattle.gen1_machine.specs.declared.health.Who.{Who}
+use Rattle.gen1_machine.specs.declared.event.Kind.{Kind}
+use Rattle.gen1_machine.specs.declared.event.Who.{Who}
 use Rattle.gen1_machine.specs.declared.event.CantReason.{CantReason}
 use Rattle.gen1_machine.specs.declared.event.DamageSource.{DamageSource}
 use Rattle.gen1_machine.specs.declared.event.Volatile.{Volatile}
-use Rattle.gen1_machine.specs.declared.picks.Pick.{Pick}
-use Rattle.gen1_machine.specs.declared.picks.DisabledSlot.{DisabledSlot}
+use Rattle.gen1_machine.specs.declared.side.Pick.{Pick}
+use Rattle.gen1_machine.specs.declared.side.DisabledSlot.{DisabledSlot}
 use Rattle.gen1_machine.specs.Sides.{other}
 use Rattle.gen1_machine.specs.LogBytes.{code}
 use Rattle.gen1_machine.specs.Conditions.{ActiveConditions}
@@ -23,7 +23,7 @@ use Rattle.gen1_machine.specs.Gate.{cant, wake, sleep_on, sleep_test, frozen_tes
 use Rattle.gen1_machine.proofs.Costs.{Costs, goes, ends, may_stop, ◌⊳◌, more, choose-costs, given-costs, stay-costs, stop-costs, fault-costs, conditions-costs, member-costs, damage-costs, action_else-costs, draw-costs, note-costs, told-costs, Bound, both, either, ◌⨟◌, silent-costs, active-costs, until-costs, and-left, and-right}
 use Rattle.gen1_tables.specs.declared.effect.Stat.{Stat}
 use Rattle.gen1_tables.specs.declared.effect.Effect.{Effect}
-use Rattle.gen1_stats.specs.declared.known_move.KnownMove.{KnownMove}
+use Rattle.gen1_stats.specs.declared.member.KnownMove.{KnownMove}
 use Rattle.gen1_machine.specs.declared.side.Side.TheVariants.{One, Two}
 use Rattle.gen1_machine.specs.State.{kind_of, Active, Terms}
 use Rattle.gen1_machine.specs.StageShift.{note_boost, note_unboost, take_penalty_again, shift_to, raise_from, lower_from, raise_stage, lower_stage}
@@ -33,7 +33,7 @@ use Rattle.gen1_machine.specs.LateEffects.{ready_to_sleep, put_to_sleep, lower_f
 use Rattle.gen1_machine.specs.SideEffects.{happens_below, by_chance, thaw, may_inflict, may_poison, may_confuse, flinch, kept_away_effect, names_slot, disable_for, disable_slot, disable, must_recharge, side_effect}
 use Rattle.std.specs.Prelude.{slice_index_or}
 use Rattle.std.proofs.lemmas.Bool.{leb-true}
-use Rattle.gen1_tables.specs.declared.element.Element.TheVariants.{Normal}
+use Rattle.gen1_tables.specs.declared.types.Element.TheVariants.{Normal}
 use Rattle.gen1_tables.specs.declared.effect.Effect.TheVariants.{DamageOnly}
 use Rattle.gen1_tables.specs.Moves.{move_rows, move_row, MoveRow}
 use Rattle.gen1_machine.specs.declared.event.DamageSource.TheVariants as sources

@@ -3,8 +3,8 @@
 use Rattle.std.proofs.Common.{None, Option, Some, refl, subst, sym, ℕ, ◌+◌, ◌≡◌, Bool, List, [], ap, arith, false, get_or, get_or-set_other, inl, inr, not, set, suc, true, zero, ◌-◌, ◌∙◌, ◌∷◌, ◌≢◌, ◌≤◌, ◌⊎◌}
 use Rattle.gen1_tables.specs.declared.effect.Effect.{Effect}
 use Rattle.gen1_rolls.specs.Streams.{byte_at, Stream, IsStream, Link}
-use Rattle.gen1_machine.specs.declared.picks.Pick.{Pick}
-use Rattle.gen1_machine.specs.declared.picks.Pick.TheVariants.{Continue, Held, Idle, Use}
+use Rattle.gen1_machine.specs.declared.side.Pick.{Pick}
+use Rattle.gen1_machine.specs.declared.side.Pick.TheVariants.{Continue, Held, Idle, Use}
 use Rattle.gen1_machine.specs.declared.side.Side.{Side}
 use Rattle.gen1_machine.specs.declared.side.Side.TheVariants.{One, Two}
 use Rattle.gen1_machine.specs.declared.terms.Outcome.{Outcome}
@@ -30,7 +30,7 @@ use Rattle.gen1_machine.proofs.FallenHealthy.{falling-acts, falling-hurts, falli
 use Rattle.std.proofs.lemmas.Bool.{false≢true}
 use Rattle.std.proofs.lemmas.Bool.Decides.{eqb_tells}
 use Rattle.gen1_stats.specs.Members.{is_living, nobody, Member}
-use Rattle.gen1_machine.specs.declared.choice.Choice.{Choice}
+use Rattle.gen1_machine.specs.declared.side.Choice.{Choice}
 use Rattle.gen1_machine.specs.declared.terms.Request.{Request}
 use Rattle.gen1_machine.specs.Falls.{ask_nothing, close, faint_if_fallen, faint_in_order, settle, the_fallen_faint}
 use Rattle.gen1_machine.specs.OfferedChoices.{offered_for}
@@ -43,7 +43,7 @@ use Rattle.gen1_machine.proofs.Fitting.{offered-fits}
 use Rattle.gen1_machine.proofs.ValidSteps.{opened-sure}
 use Rattle.gen1_tables.specs.declared.effect.Effect.TheVariants as effects
 use Rattle.gen1_machine.specs.declared.terms.Outcome.TheVariants as outcomes
-use Rattle.gen1_machine.specs.declared.choice.Choice.TheVariants as choices
+use Rattle.gen1_machine.specs.declared.side.Choice.TheVariants as choices
 use Rattle.gen1_machine.specs.declared.event.Event.TheVariants as events
 use Rattle.gen1_machine.specs.declared.terms.Request.TheVariants as requests
 

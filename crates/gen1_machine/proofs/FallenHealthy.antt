@@ -4,7 +4,7 @@ use Rattle.std.proofs.Common.{Bool, List, [], arith, false, get_or, get_or-set_o
 use Rattle.std.proofs.lemmas.Bool.{false≢true, ltb-true}
 use Rattle.std.proofs.lemmas.Bool.Decides.{eqb_tells}
 use Rattle.gen1_rolls.specs.Streams.{Stream}
-use Rattle.gen1_stats.specs.declared.status.Status.TheVariants.{Healthy}
+use Rattle.gen1_stats.specs.declared.member.Status.TheVariants.{Healthy}
 use Rattle.gen1_stats.specs.Members.{is_living, nobody, Member}
 use Rattle.gen1_machine.specs.declared.side.Side.{Side}
 use Rattle.gen1_machine.specs.declared.side.Side.TheVariants.{One, Two}

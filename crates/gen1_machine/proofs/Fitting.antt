@@ -3,10 +3,10 @@
 use Rattle.std.proofs.Common.{Bool, List, Option, [], arith, false, get_or, if◌then◌else◌, inl, inr, nat_lt, not, refl, suc, sym, true, ℕ, ◌&&◌, ◌++◌, ◌+◌, ◌-◌, ◌==◌, ◌||◌, ◌∙◌, ◌∷◌, ◌≡◌, ◌≢◌, ◌⊎◌, is_some, length, zero, ◌<◌, ◌≤◌}
 use Rattle.std.proofs.lemmas.Bool.{false≢true}
 use Rattle.std.proofs.lemmas.Bool.Decides.{eqb_tells}
-use Rattle.gen1_machine.specs.declared.choice.Choice.{Choice}
-use Rattle.gen1_machine.specs.declared.picks.DisabledSlot.{DisabledSlot}
+use Rattle.gen1_machine.specs.declared.side.Choice.{Choice}
+use Rattle.gen1_machine.specs.declared.side.DisabledSlot.{DisabledSlot}
 use Rattle.gen1_machine.specs.declared.side.Side.{Side}
-use Rattle.gen1_stats.specs.declared.known_move.KnownMove.{KnownMove}
+use Rattle.gen1_stats.specs.declared.member.KnownMove.{KnownMove}
 use Rattle.gen1_stats.specs.Members.{is_living, nobody, Member, IsBetween, sleeps_or_freezes}
 use Rattle.gen1_machine.specs.State.{active_in, conditions_in, member_at, member_in, party, underway_in, Field, Party, status_in, Terms}
 use Rattle.gen1_machine.specs.OfferedChoices.{bars_slot, has_no_slot_in, is_committed, moves_offered, offered_for, or_struggle, others_living_from, switches_offered, usable_from}
@@ -16,7 +16,7 @@ use Rattle.gen1_machine.specs.Sides.{other}
 use Rattle.gen1_machine.specs.Picks.{must_continue}
 use Rattle.gen1_machine.specs.Valid.{IsField, IsUnderway, OnlyWith}
 use Rattle.gen1_machine.proofs.Sound.{party-valid}
-use Rattle.gen1_machine.specs.declared.choice.Choice.TheVariants as choices
+use Rattle.gen1_machine.specs.declared.side.Choice.TheVariants as choices
 use Rattle.gen1_machine.specs.declared.terms.Request.TheVariants as requests
 use Rattle.gen1_tables.specs.declared.effect.Effect.TheVariants as effects
 

@@ -18,7 +18,7 @@ use Rattle.gen1_machine.specs.Valid.{keeps_accuracy, IsKept, KeepsAccuracy}
 use Rattle.gen1_machine.proofs.Keeps.{Spares, choose-keeps, draw-keeps, given-keeps, note-keeps, on_conditions-keeps, set_last_damage-keeps, stay-keeps, stop-keeps, then-keeps, Keeps, Leads, choose-false, keeps-leads, then-goes, then-leads}
 use Rattle.gen1_machine.proofs.Acts.{either, After, IfStopped, Passes}
 use Rattle.gen1_machine.proofs.Steady.{Breaks, Faults, Hurts, Leaves, Own, Steady, bide_goes_on-steady, build_rage-steady, charge-steady, confuse-steady, count_hit-steady, damage_of-steady, drain-steady, early_effect-steady, explode-steady, hits-steady, hits_below-steady, kept_away_effect-steady, land-steady, late_effect-steady, miss-steady, missed_move-steady, note_first_hit-steady, note_hit_count-steady, plan_hits-steady, recoil-steady, roll_critical-steady, roll_damage-steady, ruling-steady, set_planned-steady, side_effect-steady, trap-steady, use_move-steady, Acts}
-use Rattle.gen1_machine.specs.declared.picks.Pick.{Pick}
+use Rattle.gen1_machine.specs.declared.side.Pick.{Pick}
 use Rattle.gen1_machine.specs.Ruling.{ruling_of}
 use Rattle.gen1_machine.specs.HitTest.{base_of, hit_or_miss, hit_test, scaled_in, set_tested, settled_hit_in, test_by}
 use Rattle.gen1_machine.specs.EarlyEffects.{is_early}
@@ -30,7 +30,7 @@ use Rattle.gen1_machine.specs.ManyHits.{hit_again, hit_once, hits, other_hits}
 use Rattle.gen1_machine.specs.Action.{carry_out, damage_of, lands_at_once, lead_up, prelude, strike, usual_damage}
 use Rattle.gen1_machine.proofs.Sound.{choose-sees}
 use Rattle.gen1_tables.specs.declared.effect.Effect.TheVariants as effects
-use Rattle.gen1_tables.specs.declared.element.Element.TheVariants as elements
+use Rattle.gen1_tables.specs.declared.types.Element.TheVariants as elements
 use Rattle.gen1_machine.specs.declared.terms.Outcome.TheVariants as outcomes
 
 -- Facts of one side's active block and of the action

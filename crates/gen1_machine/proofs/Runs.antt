@@ -1,7 +1,7 @@
 -- The laws of steps, of runs and of rooms.
 use Rattle.std.proofs.Common.{Bool, List, None, Option, Some, [], ap, arith, false, if◌then◌else◌, inl, refl, sym, true, ℕ, ◌<◌, ◌∙◌, ◌∷◌, ◌≡◌, ◌≤◌}
 use Rattle.gen1_machine.specs.declared.side.Side.TheVariants.{One, Two}
-use Rattle.gen1_machine.specs.declared.choice.Choice.{Choice}
+use Rattle.gen1_machine.specs.declared.side.Choice.{Choice}
 use Rattle.gen1_rolls.specs.Streams.{byte_at, Link}
 use Rattle.gen1_machine.specs.State.{is_over, usual_terms, Terms, State}
 use Rattle.gen1_machine.specs.Progress.{Progress}

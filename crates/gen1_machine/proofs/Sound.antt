@@ -5,10 +5,10 @@ use Rattle.std.proofs.lemmas.Bool.Decides.{eqb_tells}
 use Rattle.gen1_tables.specs.declared.effect.Effect.{Effect}
 use Rattle.gen1_rolls.proofs.First.{first-finds, byte-small}
 use Rattle.gen1_rolls.specs.Streams.{byte_at, first, span, IsStream, Stream, low_bits}
-use Rattle.gen1_stats.specs.declared.known_move.KnownMove.{KnownMove}
+use Rattle.gen1_stats.specs.declared.member.KnownMove.{KnownMove}
 use Rattle.gen1_stats.specs.Members.{nobody, IsBetween, Member}
-use Rattle.gen1_machine.specs.declared.picks.UsedMove.{UsedMove}
-use Rattle.gen1_machine.specs.declared.picks.UsedMove.TheVariants.{Nothing, Slot, Struggle}
+use Rattle.gen1_machine.specs.declared.side.UsedMove.{UsedMove}
+use Rattle.gen1_machine.specs.declared.side.UsedMove.TheVariants.{Nothing, Slot, Struggle}
 use Rattle.gen1_machine.specs.declared.side.Side.{Side}
 use Rattle.gen1_machine.specs.declared.side.Side.TheVariants.{One, Two}
 use Rattle.gen1_machine.specs.Rules.{Rules}
@@ -24,17 +24,17 @@ use Rattle.gen1_machine.proofs.Keeps.{Keeps, Spares, SparesAction, Leads, choose
 use Rattle.gen1_machine.proofs.Tame.{SameMoves, TameActive, TameMember}
 use Rattle.gen1_tables.specs.declared.effect.Stat.{Stat}
 use Rattle.gen1_tables.specs.declared.effect.Stat.TheVariants.{Accuracy, Attack, Defense, Evasion, Special, Speed}
-use Rattle.gen1_tables.specs.declared.element.Element.{Element}
+use Rattle.gen1_tables.specs.declared.types.Element.{Element}
 use Rattle.gen1_tables.specs.Moves.{move_row, move_rows, MoveRow}
 use Rattle.gen1_tables.specs.Types.{same_type, type_rows, TypeRow}
-use Rattle.gen1_machine.specs.declared.picks.DisabledSlot.{DisabledSlot}
+use Rattle.gen1_machine.specs.declared.side.DisabledSlot.{DisabledSlot}
 use Rattle.gen1_machine.specs.CurrentStats.{stage_of}
 use Rattle.gen1_machine.specs.Damage.{before_types, by_rows, divided, is_own_type, rotated_right_1, times_factor, type_steps, DamageNumbers}
 use Rattle.gen1_machine.specs.HitTest.{base_of}
 use Rattle.gen1_machine.specs.SideEffects.{names_slot}
 use Rattle.gen1_tables.specs.declared.effect.Effect.TheVariants as effects
 use Rattle.gen1_machine.specs.declared.terms.Outcome.TheVariants as outcomes
-use Rattle.gen1_tables.specs.declared.element.Element.TheVariants as elements
+use Rattle.gen1_tables.specs.declared.types.Element.TheVariants as elements
 
 -- What is known of the action stays in its range, and whether Bide lets go stays as it is.
 pub record TameAction (change : Action → Action) : Type 0 where

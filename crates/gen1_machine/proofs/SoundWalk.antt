@@ -27,16 +27,16 @@ use Rattle.gen1_machine.specs.State.{changed_active, changed_conditions, changed
 use Rattle.gen1_machine.specs.Valid.{IsCount, IsStatus, OnlyWith}
 use Rattle.gen1_machine.specs.declared.event.CantReason.{CantReason}
 use Rattle.gen1_machine.specs.declared.event.DamageSource.{DamageSource}
-use Rattle.gen1_machine.specs.declared.health.Kind.{Kind}
-use Rattle.gen1_machine.specs.declared.picks.DisabledSlot.{DisabledSlot}
-use Rattle.gen1_machine.specs.declared.picks.Pick.{Pick}
-use Rattle.gen1_machine.specs.declared.picks.Pick.TheVariants.{Held}
+use Rattle.gen1_machine.specs.declared.event.Kind.{Kind}
+use Rattle.gen1_machine.specs.declared.side.DisabledSlot.{DisabledSlot}
+use Rattle.gen1_machine.specs.declared.side.Pick.{Pick}
+use Rattle.gen1_machine.specs.declared.side.Pick.TheVariants.{Held}
 use Rattle.gen1_machine.specs.declared.side.Side.{Side}
 use Rattle.gen1_rolls.specs.Streams.{low_bits, Stream}
 use Rattle.gen1_stats.specs.Members.{IsBetween, Member}
-use Rattle.gen1_stats.specs.declared.known_move.KnownMove.{KnownMove}
-use Rattle.gen1_stats.specs.declared.status.Status.{Status}
-use Rattle.gen1_stats.specs.declared.status.Status.TheVariants.{Asleep, Burned, Poisoned}
+use Rattle.gen1_stats.specs.declared.member.KnownMove.{KnownMove}
+use Rattle.gen1_stats.specs.declared.member.Status.{Status}
+use Rattle.gen1_stats.specs.declared.member.Status.TheVariants.{Asleep, Burned, Poisoned}
 use Rattle.gen1_tables.specs.declared.effect.Effect.{Effect}
 use Rattle.gen1_tables.specs.declared.effect.Stat.{Stat}
 use Rattle.std.proofs.Common.{arith, refl, ◌<◌, ◌≡◌, ◌≤◌}

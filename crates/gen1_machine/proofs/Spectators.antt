@@ -1,12 +1,12 @@
 -- The spectator's law: a spectator can follow a turn, the end of an update, and so every run.
 use Rattle.std.proofs.Common.{[], Bool, List, false, refl, sym, true, true≢false, ℕ, ◌∙◌, ◌∷◌, ◌≡◌, ◌||◌, ap, arith, length, subst, ◌+◌, ◌≤◌, All, None, Option, flat_map, if◌then◌else◌, map, nat_lt, not, ◌&&◌, ◌++◌, ◌==◌}
-use Rattle.gen1_stats.specs.declared.status.Status.{Status}
-use Rattle.gen1_stats.specs.declared.status.Status.TheVariants.{Poisoned, Burned}
+use Rattle.gen1_stats.specs.declared.member.Status.{Status}
+use Rattle.gen1_stats.specs.declared.member.Status.TheVariants.{Poisoned, Burned}
 use Rattle.gen1_machine.specs.declared.side.Side.{Side}
 use Rattle.gen1_machine.specs.declared.side.Side.TheVariants.{One, Two}
 use Rattle.gen1_machine.specs.declared.event.DamageSource.{DamageSource}
-use Rattle.gen1_machine.specs.declared.picks.Pick.{Pick}
-use Rattle.gen1_machine.specs.declared.choice.Choice.{Choice}
+use Rattle.gen1_machine.specs.declared.side.Pick.{Pick}
+use Rattle.gen1_machine.specs.declared.side.Choice.{Choice}
 use Rattle.gen1_machine.specs.Sides.{other}
 use Rattle.gen1_machine.specs.State.{is_over, party, who_in, changed_member, with_outcome, with_requests, with_next_turn, fallen, member_in, Field, request_of, active_in, conditions_in, underway_in, kind_of, first_state, State}
 use Rattle.gen1_machine.specs.Progress.{Phase, has_fallen, Progress, on_field, note, told}
@@ -27,13 +27,13 @@ use Rattle.gen1_machine.specs.Falls.{faint_if_fallen, faint_in_order, the_fallen
 use Rattle.gen1_machine.specs.Step.{update_for, close_update, update, same_choice, is_among, opened, events_of, answered, offers, step_by, step, run_by, run, Stepped}
 use Rattle.std.proofs.lemmas.Bool.{eqb-true}
 use Rattle.std.proofs.lemmas.List.Elements.{All-head, All-tail}
-use Rattle.gen1_stats.specs.declared.known_move.KnownMove.{KnownMove}
+use Rattle.gen1_stats.specs.declared.member.KnownMove.{KnownMove}
 use Rattle.gen1_stats.specs.Members.{is_living, IsFresh, Member}
-use Rattle.gen1_machine.specs.declared.picks.DisabledSlot.{DisabledSlot}
+use Rattle.gen1_machine.specs.declared.side.DisabledSlot.{DisabledSlot}
 use Rattle.gen1_machine.specs.OfferedChoices.{is_committed, has_no_slot_in, bars_slot, usable_from, or_struggle, moves_offered, others_living_from, switches_offered, offered_for, offered}
 use Rattle.gen1_machine.specs.Spectator.{WatcherKnows}
 use Rattle.gen1_machine.specs.declared.event.DamageSource.TheVariants as sources
-use Rattle.gen1_machine.specs.declared.choice.Choice.TheVariants as choices
+use Rattle.gen1_machine.specs.declared.side.Choice.TheVariants as choices
 use Rattle.gen1_machine.specs.declared.terms.Outcome.TheVariants as outcomes
 use Rattle.gen1_machine.specs.declared.terms.Request.TheVariants as requests
 use Rattle.gen1_machine.specs.declared.event.Event.TheVariants as events

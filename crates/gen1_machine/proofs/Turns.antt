@@ -9,8 +9,8 @@ use Rattle.gen1_machine.specs.State.{changed_active, changed_member, member_at, 
 use Rattle.gen1_rolls.specs.Streams.{Stream}
 use Rattle.gen1_machine.specs.Progress.{Action, on_active, on_conditions, on_field, Phase}
 use Rattle.gen1_machine.proofs.Free.{Free, LeavesPlace, act-free, begin-free, conditions-spared, penalty-leaves, picked-leaves, residual-free, ruling-free}
-use Rattle.gen1_machine.specs.declared.choice.Choice.{Choice}
-use Rattle.gen1_machine.specs.declared.picks.Pick.{Pick}
+use Rattle.gen1_machine.specs.declared.side.Choice.{Choice}
+use Rattle.gen1_machine.specs.declared.side.Pick.{Pick}
 use Rattle.gen1_machine.specs.Sides.{other}
 use Rattle.gen1_machine.specs.Conditions.{without_flinch, without_trapping}
 use Rattle.gen1_machine.specs.Ruling.{ruling_of}
@@ -19,7 +19,7 @@ use Rattle.gen1_machine.specs.TurnOrder.{in_order, in_order_of_rank, in_order_of
 use Rattle.gen1_machine.specs.Turn.{both_act, both_pick, both_switch, do_part, do_parts, end_spent_trapping, end_turn, one_picks, play_turn, set_picked, turn, Acts, Part, Sends, Suffers}
 use Rattle.gen1_machine.specs.Falls.{faint_if_fallen, faint_in_order, the_fallen_faint}
 use Rattle.gen1_machine.proofs.Keeps.{choose-keeps, draw-keeps, given-keeps, keeps_rules, note-keeps, on_active-keeps, on_conditions-keeps, stay-keeps, then-keeps, Keeps, Spares, choose-leads, given-leads, keeps-leads, leads-weaker, stay-leads, then-leads, Leads}
-use Rattle.gen1_machine.specs.declared.choice.Choice.TheVariants as choices
+use Rattle.gen1_machine.specs.declared.side.Choice.TheVariants as choices
 
 -- The bench: how many members of a party live in addition to the one that is out. An action leaves the bench as it
 -- is. A living member that replaces a fallen one makes it shorter by one.

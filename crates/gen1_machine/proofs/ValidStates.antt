@@ -2,7 +2,7 @@
 use Rattle.std.proofs.Common.{Bool, List, [], arith, false, inl, inr, refl, subst, sym, true, ℕ, ◌∙◌, ◌∷◌, ◌≡◌, ◌⊎◌, length, ◌<◌}
 use Rattle.std.proofs.lemmas.Bool.{false≢true, lt-ltb}
 use Rattle.gen1_rolls.specs.Streams.{IsStream, Link}
-use Rattle.gen1_machine.specs.declared.choice.Choice.{Choice}
+use Rattle.gen1_machine.specs.declared.side.Choice.{Choice}
 use Rattle.gen1_machine.specs.declared.side.Side.{Side}
 use Rattle.gen1_machine.specs.declared.side.Side.TheVariants.{One, Two}
 use Rattle.gen1_machine.specs.declared.terms.Outcome.{Outcome}
@@ -26,8 +26,8 @@ use Rattle.gen1_machine.proofs.Fallen.{replace-keeps, update-standing, Standing}
 use Rattle.gen1_machine.proofs.Steady.{softens-fallen}
 use Rattle.gen1_machine.proofs.KeptAccuracy.{at-steady, stands-alone}
 use Rattle.gen1_machine.proofs.KeptTurns.{both-of, kept-tied, send_out-stands, Both}
-use Rattle.gen1_stats.specs.declared.status.Status.{Status}
-use Rattle.gen1_stats.specs.declared.status.Status.TheVariants.{Healthy}
+use Rattle.gen1_stats.specs.declared.member.Status.{Status}
+use Rattle.gen1_stats.specs.declared.member.Status.TheVariants.{Healthy}
 use Rattle.gen1_stats.specs.Members.{is_living, nobody, IsTeam, Member}
 use Rattle.gen1_machine.specs.Rules.{Rules}
 use Rattle.gen1_machine.specs.declared.terms.Outcome.TheVariants as outcomes

@@ -1,7 +1,7 @@
 -- A spectator can follow an action.
 use Rattle.std.proofs.Common.{Bool, List, None, Option, Some, ap, false, lit≤, refl, suc, sym, true, true≢false, zero, ℕ, ◌+◌, ◌∙◌, ◌≡◌, [], ◌&&◌, ◌-◌, ◌∷◌}
 use Rattle.std.specs.Prelude.{slice_index_or}
-use Rattle.gen1_tables.specs.declared.element.Element.TheVariants.{Normal}
+use Rattle.gen1_tables.specs.declared.types.Element.TheVariants.{Normal}
 use Rattle.gen1_tables.specs.declared.effect.Effect.TheVariants.{DamageOnly}
 use Rattle.gen1_tables.specs.Moves.{move_rows, move_row, MoveRow}
 use Rattle.gen1_tables.specs.declared.effect.Stat.TheVariants.{Attack}
@@ -11,8 +11,8 @@ use Rattle.gen1_rolls.specs.Streams.{low_bits}
 use Rattle.gen1_machine.specs.declared.side.Side.{Side}
 use Rattle.gen1_machine.specs.declared.terms.Outcome.TheVariants as outcomes
 use Rattle.gen1_machine.specs.declared.event.Event.{Event}
-use Rattle.gen1_machine.specs.declared.picks.Pick.{Pick}
-use Rattle.gen1_machine.specs.declared.picks.Pick.TheVariants.{Use, Continue, Idle, Held}
+use Rattle.gen1_machine.specs.declared.side.Pick.{Pick}
+use Rattle.gen1_machine.specs.declared.side.Pick.TheVariants.{Use, Continue, Idle, Held}
 use Rattle.gen1_machine.specs.Sides.{other}
 use Rattle.gen1_machine.specs.Conditions.{without_seed, Storing}
 use Rattle.gen1_machine.specs.State.{changed_active, changed_conditions, changed_member, fallen, with_kept_accuracy, is_over, Field}

@@ -1,13 +1,13 @@
 -- A spectator can follow the gate, the landing, the hit test, a switch, and the beginning of a battle.
 use Rattle.std.proofs.Common.{Bool, None, Option, Some, ap, false, if◌then◌else◌, nat_le, refl, sym, true, ℕ, ◌-◌, ◌∙◌, ◌≡◌, [], List, arith, get_or-set_same, length, length-set, map, nat_lt, not, slice_index_or, subst, ◌&&◌, ◌++◌, ◌==◌, ◌∷◌, ◌≤◌}
-use Rattle.gen1_stats.specs.declared.status.Status.{Status}
-use Rattle.gen1_stats.specs.declared.status.Status.TheVariants.{Asleep, Healthy}
+use Rattle.gen1_stats.specs.declared.member.Status.{Status}
+use Rattle.gen1_stats.specs.declared.member.Status.TheVariants.{Asleep, Healthy}
 use Rattle.gen1_machine.specs.declared.side.Side.{Side}
-use Rattle.gen1_machine.specs.declared.health.Who.{Who}
+use Rattle.gen1_machine.specs.declared.event.Who.{Who}
 use Rattle.gen1_machine.specs.declared.event.CantReason.{CantReason}
 use Rattle.gen1_machine.specs.declared.event.DamageSource.{DamageSource}
-use Rattle.gen1_machine.specs.declared.picks.Pick.{Pick}
-use Rattle.gen1_machine.specs.declared.picks.DisabledSlot.{DisabledSlot}
+use Rattle.gen1_machine.specs.declared.side.Pick.{Pick}
+use Rattle.gen1_machine.specs.declared.side.DisabledSlot.{DisabledSlot}
 use Rattle.gen1_machine.specs.Sides.{other}
 use Rattle.gen1_machine.specs.State.{kind_of, who_in, changed_member, member_in, status_in, one_turn_less_asleep, with_sleep_one_less, party, member_at, has_fallen_in, health_of, health_in, changed_active, changed_conditions, nobody_out, Active, Party, Field}
 use Rattle.gen1_machine.specs.Moves.{Move}
@@ -26,16 +26,16 @@ use Rattle.gen1_stats.specs.Members.{nobody, Member}
 use Rattle.gen1_machine.specs.declared.side.Side.TheVariants.{One, Two}
 use Rattle.gen1_machine.specs.declared.event.Volatile.{Volatile}
 use Rattle.gen1_machine.specs.declared.event.Event.{Event}
-use Rattle.gen1_machine.specs.declared.choice.Choice.{Choice}
+use Rattle.gen1_machine.specs.declared.side.Choice.{Choice}
 use Rattle.gen1_machine.specs.Health.{Health}
 use Rattle.gen1_machine.specs.Conditions.{without_trapping}
 use Rattle.gen1_machine.specs.SwitchingIn.{with_sent_out, switch_event, send_out, start}
-use Rattle.gen1_machine.specs.declared.health.Kind.TheVariants as kinds
+use Rattle.gen1_machine.specs.declared.event.Kind.TheVariants as kinds
 use Rattle.gen1_machine.specs.declared.event.DamageSource.TheVariants as sources
 use Rattle.gen1_machine.specs.declared.event.Event.TheVariants as events
 use Rattle.gen1_machine.specs.declared.terms.Outcome.TheVariants as outcomes
 use Rattle.gen1_machine.specs.declared.event.Volatile.TheVariants as volatiles
-use Rattle.gen1_machine.specs.declared.choice.Choice.TheVariants as choices
+use Rattle.gen1_machine.specs.declared.side.Choice.TheVariants as choices
 
 miss-unseen : (b : Bool) (x y : Who) (w : View) → sees (if b then events.Immune x else events.Miss y) w ≡ w
 unfolding sees

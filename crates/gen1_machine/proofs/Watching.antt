@@ -7,8 +7,8 @@ use Rattle.std.proofs.lemmas.List.{map-set}
 use Rattle.std.proofs.Math.ListN.{get_or-map}
 use Rattle.gen1_tables.specs.declared.effect.Stat.{Stat}
 use Rattle.gen1_tables.specs.declared.effect.Stat.TheVariants.{Attack, Defense, Speed, Special, Accuracy, Evasion}
-use Rattle.gen1_stats.specs.declared.status.Status.{Status}
-use Rattle.gen1_stats.specs.declared.status.Status.TheVariants.{Burned, Paralysed, Healthy}
+use Rattle.gen1_stats.specs.declared.member.Status.{Status}
+use Rattle.gen1_stats.specs.declared.member.Status.TheVariants.{Burned, Paralysed, Healthy}
 use Rattle.gen1_stats.specs.Members.{nobody, Member}
 use Rattle.gen1_machine.specs.declared.side.Side.{Side}
 use Rattle.gen1_machine.specs.declared.side.Side.TheVariants.{One, Two}
@@ -18,8 +18,8 @@ use Rattle.gen1_machine.specs.CurrentStats.{stage_of, with_stage, at_new_stage, 
 use Rattle.gen1_machine.specs.View.{on_side_view, shown_at, if_out, on_shown, shown, side_shows, shows, Shown, SideView, not_shown, on_named, on_active_shown, sees_volatile, sees_rise, sees_drop, sees, sees_all, View}
 use Rattle.gen1_rolls.specs.Streams.{byte_at, span, first}
 use Rattle.gen1_machine.specs.declared.terms.Request.{Request}
-use Rattle.gen1_machine.specs.declared.health.Kind.{Kind}
-use Rattle.gen1_machine.specs.declared.health.Who.{Who}
+use Rattle.gen1_machine.specs.declared.event.Kind.{Kind}
+use Rattle.gen1_machine.specs.declared.event.Who.{Who}
 use Rattle.gen1_machine.specs.Health.{Health}
 use Rattle.gen1_machine.specs.declared.event.DamageSource.{DamageSource}
 use Rattle.gen1_machine.specs.declared.event.Volatile.{Volatile}

@@ -2,10 +2,10 @@
 use Rattle.std.proofs.Common.{Bool, List, None, [], false, refl, replicate, true, ℕ, ◌∷◌, ◌≡◌, Some, map}
 use Rattle.gen1_machine.specs.declared.side.Side.{Side}
 use Rattle.gen1_machine.specs.declared.side.Side.TheVariants.{One, Two}
-use Rattle.gen1_machine.specs.declared.health.Who.{Who}
+use Rattle.gen1_machine.specs.declared.event.Who.{Who}
 use Rattle.gen1_machine.specs.declared.event.Event.{Event}
-use Rattle.gen1_machine.specs.declared.picks.UsedMove.TheVariants.{Slot, Struggle}
-use Rattle.gen1_machine.specs.declared.picks.Pick.TheVariants.{Use, Continue, Idle, Held}
+use Rattle.gen1_machine.specs.declared.side.UsedMove.TheVariants.{Slot, Struggle}
+use Rattle.gen1_machine.specs.declared.side.Pick.TheVariants.{Use, Continue, Idle, Held}
 use Rattle.gen1_rolls.specs.Streams.{Stream, Link, Sweep}
 use Rattle.gen1_stats.specs.Members.{Member}
 use Rattle.gen1_machine.specs.Health.{Health}
@@ -18,12 +18,12 @@ use Rattle.gen1_machine.specs.Action.{act, gate_or_held}
 use Rattle.gen1_machine.proofs.Computing.{computing}
 use Rattle.gen1_machine.proofs.WorkedRules.{tauros, knowing, facing, as_is, set, usual, hp_of}
 use Rattle.gen1_tables.specs.declared.effect.Stat.TheVariants.{Attack}
-use Rattle.gen1_stats.specs.declared.status.Status.TheVariants.{Asleep, Frozen}
-use Rattle.gen1_machine.specs.declared.picks.Pick.{Pick}
+use Rattle.gen1_stats.specs.declared.member.Status.TheVariants.{Asleep, Frozen}
+use Rattle.gen1_machine.specs.declared.side.Pick.{Pick}
 use Rattle.gen1_machine.specs.Picks.{pick_in}
 use Rattle.gen1_machine.specs.Gate.{gate}
 use Rattle.gen1_machine.specs.SideEffects.{side_effect}
-use Rattle.gen1_machine.specs.declared.health.Kind.TheVariants as kinds
+use Rattle.gen1_machine.specs.declared.event.Kind.TheVariants as kinds
 use Rattle.gen1_machine.specs.declared.event.DamageSource.TheVariants as sources
 use Rattle.gen1_machine.specs.declared.event.Volatile.TheVariants as volatiles
 use Rattle.gen1_machine.specs.declared.event.Event.TheVariants as events

@@ -1,19 +1,19 @@
 -- Worked examples: single rules (docs/PROOFS.md, "Worked examples").
 use Rattle.std.proofs.Common.{Bool, List, None, Option, Some, [], false, map, nat_lt, not, refl, replicate, slice_index, suc, true, zero, ℕ, ◌&&◌, ◌++◌, ◌+◌, ◌==◌, ◌∷◌, ◌≡◌}
-use Rattle.gen1_tables.specs.declared.element.Element.TheVariants.{Normal, Flying, Water, Ice}
+use Rattle.gen1_tables.specs.declared.types.Element.TheVariants.{Normal, Flying, Water, Ice}
 use Rattle.gen1_tables.specs.declared.effect.Stat.TheVariants.{Attack}
 use Rattle.gen1_tables.specs.declared.effect.Effect.TheVariants as effects
-use Rattle.gen1_stats.specs.declared.status.Status.{Status}
-use Rattle.gen1_stats.specs.declared.status.Status.TheVariants.{Healthy, Asleep, Poisoned, Burned, Frozen, Paralysed}
+use Rattle.gen1_stats.specs.declared.member.Status.{Status}
+use Rattle.gen1_stats.specs.declared.member.Status.TheVariants.{Healthy, Asleep, Poisoned, Burned, Frozen, Paralysed}
 use Rattle.gen1_machine.specs.declared.side.Side.{Side}
 use Rattle.gen1_machine.specs.declared.side.Side.TheVariants.{One, Two}
 use Rattle.gen1_machine.specs.declared.terms.Outcome.TheVariants as outcomes
 use Rattle.gen1_machine.specs.declared.terms.Request.TheVariants as requests
 use Rattle.gen1_machine.specs.declared.event.Event.{Event}
 use Rattle.gen1_machine.specs.declared.event.Event.TheVariants as events
-use Rattle.gen1_machine.specs.declared.picks.UsedMove.TheVariants.{Slot}
-use Rattle.gen1_machine.specs.declared.picks.Pick.{Pick}
-use Rattle.gen1_machine.specs.declared.picks.Pick.TheVariants.{Use, Continue, Idle}
+use Rattle.gen1_machine.specs.declared.side.UsedMove.TheVariants.{Slot}
+use Rattle.gen1_machine.specs.declared.side.Pick.{Pick}
+use Rattle.gen1_machine.specs.declared.side.Pick.TheVariants.{Use, Continue, Idle}
 use Rattle.gen1_tables.specs.Types.{any}
 use Rattle.gen1_rolls.specs.Streams.{byte_at, first, Stream, Link, Sweep}
 use Rattle.gen1_stats.specs.Members.{Member}

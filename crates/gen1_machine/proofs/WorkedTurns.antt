@@ -2,13 +2,13 @@
 -- bytes and their lines (docs/PROOFS.md, "Worked examples").
 use Rattle.std.proofs.Common.{Bool, List, None, Some, [], codes, false, map, refl, replicate, slice_index, true, ℕ, ◌++◌, ◌∷◌, ◌≡◌, Option}
 use Rattle.gen1_tables.specs.declared.effect.Stat.TheVariants.{Attack, Speed}
-use Rattle.gen1_stats.specs.declared.status.Status.TheVariants.{Healthy, Asleep, Poisoned, Paralysed, Burned}
+use Rattle.gen1_stats.specs.declared.member.Status.TheVariants.{Healthy, Asleep, Poisoned, Paralysed, Burned}
 use Rattle.gen1_machine.specs.declared.side.Side.{Side}
 use Rattle.gen1_machine.specs.declared.side.Side.TheVariants.{One, Two}
 use Rattle.gen1_machine.specs.declared.terms.Outcome.{Outcome}
 use Rattle.gen1_machine.specs.declared.terms.Request.{Request}
 use Rattle.gen1_machine.specs.declared.event.Event.{Event}
-use Rattle.gen1_machine.specs.declared.choice.Choice.{Choice}
+use Rattle.gen1_machine.specs.declared.side.Choice.{Choice}
 use Rattle.gen1_rolls.specs.Streams.{Sweep}
 use Rattle.gen1_stats.specs.Members.{Member}
 use Rattle.gen1_machine.specs.Sides.{other}
@@ -37,18 +37,18 @@ use Rattle.gen1_machine.specs.LateEffects.{late_effect}
 use Rattle.gen1_machine.specs.ResidualDamage.{residual}
 use Rattle.std.specs.Fmt.{digits}
 use Rattle.gen1_tables.specs.Names.{species_name, species_names, move_name, move_names, name_at}
-use Rattle.gen1_machine.specs.declared.health.Kind.{Kind}
-use Rattle.gen1_machine.specs.declared.health.Kind.TheVariants.{Paralysis}
-use Rattle.gen1_machine.specs.declared.health.Who.{Who}
+use Rattle.gen1_machine.specs.declared.event.Kind.{Kind}
+use Rattle.gen1_machine.specs.declared.event.Kind.TheVariants.{Paralysis}
+use Rattle.gen1_machine.specs.declared.event.Who.{Who}
 use Rattle.gen1_machine.specs.declared.event.DamageSource.TheVariants.{Direct}
 use Rattle.gen1_machine.specs.Health.{Health}
 use Rattle.gen1_machine.specs.declared.terms.Outcome.TheVariants as outcomes
 use Rattle.gen1_machine.specs.declared.terms.Request.TheVariants as requests
-use Rattle.gen1_machine.specs.declared.health.Kind.TheVariants as kinds
+use Rattle.gen1_machine.specs.declared.event.Kind.TheVariants as kinds
 use Rattle.gen1_machine.specs.declared.event.DamageSource.TheVariants as sources
 use Rattle.gen1_machine.specs.declared.event.Volatile.TheVariants as volatiles
 use Rattle.gen1_machine.specs.declared.event.Event.TheVariants as events
-use Rattle.gen1_machine.specs.declared.choice.Choice.TheVariants as choices
+use Rattle.gen1_machine.specs.declared.side.Choice.TheVariants as choices
 use Rattle.gen1_tables.specs.declared.effect.Effect.TheVariants as effects
 
 -- One more member on a side.

@@ -3,8 +3,8 @@ use Rattle.std.specs.Prelude.{List, false, length, ℕ, ◌++◌, ◌+◌, ◌�
 use Rattle.gen1_rolls.specs.Streams.{span}
 use Rattle.gen1_machine.specs.declared.side.Side.{Side}
 use Rattle.gen1_machine.specs.declared.event.Event.{Event}
-use Rattle.gen1_machine.specs.declared.picks.Pick.{Pick}
-use Rattle.gen1_machine.specs.declared.choice.Choice.{Choice}
+use Rattle.gen1_machine.specs.declared.side.Pick.{Pick}
+use Rattle.gen1_machine.specs.declared.side.Choice.{Choice}
 use Rattle.gen1_machine.specs.LogBytes.{codes_of}
 use Rattle.gen1_machine.specs.State.{Terms, State}
 use Rattle.gen1_machine.specs.Progress.{Phase, Progress}

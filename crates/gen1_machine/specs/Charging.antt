@@ -1,7 +1,7 @@
 -- Moves that charge for a turn before they strike (docs/MECHANICS.md, "Charging").
 use Rattle.gen1_machine.specs.declared.side.Side.{Side}
 use Rattle.gen1_machine.specs.declared.event.Event.TheVariants as events
-use Rattle.gen1_machine.specs.declared.picks.Pick.{Pick}
+use Rattle.gen1_machine.specs.declared.side.Pick.{Pick}
 use Rattle.gen1_machine.specs.Conditions.{with_charging, without_charging, with_invulnerability, without_invulnerability}
 use Rattle.gen1_machine.specs.State.{who_in, with_current_move}
 use Rattle.gen1_tables.specs.Effects.{charges, hides}

@@ -1,7 +1,7 @@
 -- Choices as bytes (docs/MECHANICS.md, "Offered choices").
 use Rattle.std.specs.Prelude.{ℕ, ◌+◌, ◌-◌, ◌==◌, ◌&&◌, nat_le, if◌then◌else◌, Option, Some, None}
-use Rattle.gen1_machine.specs.declared.choice.Choice.{Choice}
-use Rattle.gen1_machine.specs.declared.choice.Choice.TheVariants.{Pass, Move, Switch}
+use Rattle.gen1_machine.specs.declared.side.Choice.{Choice}
+use Rattle.gen1_machine.specs.declared.side.Choice.TheVariants.{Pass, Move, Switch}
 
 abbrev pub byte_of_choice : Choice → ℕ
 byte_of_choice Pass = 0x00

@@ -1,7 +1,7 @@
 -- The conditions of a member that is out (docs/MECHANICS.md, "Conditions"). Each condition has its own numbers, and
 -- each change has its own function.
 use Rattle.std.specs.Prelude.{Bool, None, Option, Some, false, min, true, ℕ, ◌%◌, ◌+◌, ◌-◌}
-use Rattle.gen1_machine.specs.declared.picks.DisabledSlot.{DisabledSlot}
+use Rattle.gen1_machine.specs.declared.side.DisabledSlot.{DisabledSlot}
 
 -- Bide: how many more turns it stores, and the energy stored so far.
 pub record Storing : Type 0 where

@@ -1,6 +1,6 @@
 -- Counter (docs/MECHANICS.md, "Counter") deals twice the last damage.
 use Rattle.std.specs.Prelude.{Bool, min, nat_lt, not, true, ℕ, ◌&&◌, ◌*◌, ◌==◌, ◌||◌}
-use Rattle.gen1_tables.specs.declared.element.Element.TheVariants.{Normal, Fighting}
+use Rattle.gen1_tables.specs.declared.types.Element.TheVariants.{Normal, Fighting}
 use Rattle.gen1_machine.specs.declared.side.Side.{Side}
 use Rattle.gen1_tables.specs.Types.{same_type}
 use Rattle.gen1_machine.specs.Sides.{other}

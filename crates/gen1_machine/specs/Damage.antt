@@ -1,7 +1,7 @@
 -- Damage (docs/MECHANICS.md, "Damage numbers", "Damage formula", "Types", "Factors"): its numbers, its formula, the
 -- types and the factor.
 use Rattle.std.specs.Prelude.{Bool, List, None, Option, Some, [], count_by, false, if◌then◌else◌, max, min, nat_le, nat_lt, suc, true, zero, ℕ, ◌%◌, ◌*◌, ◌+◌, ◌/◌, ◌==◌, ◌||◌, ◌∷◌}
-use Rattle.gen1_tables.specs.declared.element.Element.{Element}
+use Rattle.gen1_tables.specs.declared.types.Element.{Element}
 use Rattle.gen1_tables.specs.declared.effect.Stat.{Stat}
 use Rattle.gen1_tables.specs.declared.effect.Stat.TheVariants.{Attack, Defense, Special}
 use Rattle.gen1_machine.specs.declared.side.Side.{Side}

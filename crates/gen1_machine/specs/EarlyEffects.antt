@@ -1,14 +1,14 @@
 -- Moves that act before any damage, and end the action (docs/MECHANICS.md, "Early effects").
 use Rattle.std.specs.Prelude.{Bool, None, Option, Some, false, nat_lt, true, ℕ, ◌&&◌, ◌+◌, ◌-◌, ◌/◌, ◌==◌, ◌||◌}
-use Rattle.gen1_tables.specs.declared.element.Element.TheVariants.{Poison, Ground, Grass, Electric}
+use Rattle.gen1_tables.specs.declared.types.Element.TheVariants.{Poison, Ground, Grass, Electric}
 use Rattle.gen1_tables.specs.declared.effect.Effect.{Effect}
 use Rattle.gen1_tables.specs.declared.effect.Effect.TheVariants as effects
-use Rattle.gen1_stats.specs.declared.status.Status.{Status}
-use Rattle.gen1_stats.specs.declared.status.Status.TheVariants.{Asleep, Poisoned, Paralysed}
+use Rattle.gen1_stats.specs.declared.member.Status.{Status}
+use Rattle.gen1_stats.specs.declared.member.Status.TheVariants.{Asleep, Poisoned, Paralysed}
 use Rattle.gen1_machine.specs.declared.side.Side.{Side}
 use Rattle.gen1_machine.specs.declared.side.Side.TheVariants.{One, Two}
-use Rattle.gen1_machine.specs.declared.health.Kind.{Kind}
-use Rattle.gen1_machine.specs.declared.health.Kind.TheVariants as kinds
+use Rattle.gen1_machine.specs.declared.event.Kind.{Kind}
+use Rattle.gen1_machine.specs.declared.event.Kind.TheVariants as kinds
 use Rattle.gen1_machine.specs.declared.event.DamageSource.TheVariants as sources
 use Rattle.gen1_machine.specs.declared.event.Volatile.TheVariants as volatiles
 use Rattle.gen1_machine.specs.declared.event.Event.TheVariants as events

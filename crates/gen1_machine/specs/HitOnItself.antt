@@ -1,6 +1,6 @@
 -- The hit of a confused member on itself (docs/MECHANICS.md, "Hit on itself").
 use Rattle.std.specs.Prelude.{None, Option, Some, false, ℕ}
-use Rattle.gen1_tables.specs.declared.element.Element.TheVariants.{Normal}
+use Rattle.gen1_tables.specs.declared.types.Element.TheVariants.{Normal}
 use Rattle.gen1_tables.specs.declared.effect.Stat.TheVariants.{Attack, Defense}
 use Rattle.gen1_tables.specs.declared.effect.Effect.TheVariants as effects
 use Rattle.gen1_machine.specs.declared.side.Side.{Side}

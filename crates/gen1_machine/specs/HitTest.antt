@@ -1,9 +1,9 @@
 -- The hit test (docs/MECHANICS.md, "Hit test").
 use Rattle.std.specs.Prelude.{Bool, None, Option, Some, false, if◌then◌else◌, max, min, nat_lt, not, true, ℕ, ◌&&◌, ◌*◌, ◌-◌, ◌/◌, ◌==◌}
-use Rattle.gen1_tables.specs.declared.element.Element.{Element}
+use Rattle.gen1_tables.specs.declared.types.Element.{Element}
 use Rattle.gen1_tables.specs.declared.effect.Effect.{Effect}
 use Rattle.gen1_tables.specs.declared.effect.Effect.TheVariants as effects
-use Rattle.gen1_stats.specs.declared.status.Status.{Status}
+use Rattle.gen1_stats.specs.declared.member.Status.{Status}
 use Rattle.gen1_machine.specs.declared.side.Side.{Side}
 use Rattle.gen1_machine.specs.declared.event.Event.{Event}
 use Rattle.gen1_machine.specs.declared.event.Event.TheVariants as events

@@ -1,6 +1,6 @@
 -- Laws of steps, of runs and of draws (docs/PROOFS.md, "Laws"). Each is the contract of a function in src/laws.rt.
 use Rattle.std.specs.Prelude.{All, Bool, IsTrue, List, None, Some, [], count_by, false, if◌then◌else◌, map, suc, true, zero, ℕ, ◌*◌, ◌++◌, ◌+◌, ◌<◌, ◌≡◌, ◌≤◌, ◌⊎◌, ◌||◌}
-use Rattle.gen1_machine.specs.declared.choice.Choice.{Choice}
+use Rattle.gen1_machine.specs.declared.side.Choice.{Choice}
 use Rattle.gen1_rolls.specs.Streams.{byte_at, span, IsStream, first, Drawn, IsFirst, Link, Stream}
 use Rattle.gen1_stats.specs.Members.{IsTeam, Member}
 use Rattle.gen1_machine.specs.State.{first_state, is_over, usual_terms, Field, State, Terms}

@@ -1,6 +1,6 @@
 -- Moves by their number (docs/TABLES.md, "Moves"): their rows, and the few moves that a rule names.
 use Rattle.std.specs.Prelude.{Bool, ℕ, ◌*◌, ◌/◌, ◌==◌, ◌||◌}
-use Rattle.gen1_tables.specs.declared.element.Element.{Element}
+use Rattle.gen1_tables.specs.declared.types.Element.{Element}
 use Rattle.gen1_tables.specs.declared.effect.Effect.{Effect}
 use Rattle.gen1_tables.specs.Moves.{move_row, MoveRow}
 

@@ -1,12 +1,12 @@
 -- What a side's choice of a move becomes as the turn begins (docs/MECHANICS.md, "Picks").
 use Rattle.std.specs.Prelude.{Bool, List, None, Option, Some, false, if◌then◌else◌, is_some, suc, true, zero, ℕ, ◌==◌, ◌||◌}
-use Rattle.gen1_stats.specs.declared.known_move.KnownMove.{KnownMove}
+use Rattle.gen1_stats.specs.declared.member.KnownMove.{KnownMove}
 use Rattle.gen1_machine.specs.declared.side.Side.{Side}
-use Rattle.gen1_machine.specs.declared.picks.UsedMove.{UsedMove}
-use Rattle.gen1_machine.specs.declared.picks.UsedMove.TheVariants.{Nothing, Slot, Struggle}
-use Rattle.gen1_machine.specs.declared.picks.Pick.{Pick}
-use Rattle.gen1_machine.specs.declared.picks.Pick.TheVariants.{Use, Continue, Idle, Held}
-use Rattle.gen1_machine.specs.declared.picks.DisabledSlot.{DisabledSlot}
+use Rattle.gen1_machine.specs.declared.side.UsedMove.{UsedMove}
+use Rattle.gen1_machine.specs.declared.side.UsedMove.TheVariants.{Nothing, Slot, Struggle}
+use Rattle.gen1_machine.specs.declared.side.Pick.{Pick}
+use Rattle.gen1_machine.specs.declared.side.Pick.TheVariants.{Use, Continue, Idle, Held}
+use Rattle.gen1_machine.specs.declared.side.DisabledSlot.{DisabledSlot}
 use Rattle.gen1_tables.specs.Moves.{struggle}
 use Rattle.gen1_stats.specs.Members.{sleeps_or_freezes}
 use Rattle.gen1_machine.specs.Sides.{other}

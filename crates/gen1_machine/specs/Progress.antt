@@ -1,12 +1,12 @@
 -- A battle in the middle of an update, the phases that move it on, and the ways to combine phases.
 use Rattle.std.specs.Prelude.{Bool, List, None, Option, Some, [], false, is_some, nat_lt, not, true, ℕ, ◌&&◌, ◌++◌, ◌+◌, ◌∷◌}
-use Rattle.gen1_tables.specs.declared.element.Element.{Element}
+use Rattle.gen1_tables.specs.declared.types.Element.{Element}
 use Rattle.gen1_tables.specs.declared.effect.Stat.{Stat}
-use Rattle.gen1_stats.specs.declared.status.Status.{Status}
-use Rattle.gen1_stats.specs.declared.status.Status.TheVariants.{Healthy}
+use Rattle.gen1_stats.specs.declared.member.Status.{Status}
+use Rattle.gen1_stats.specs.declared.member.Status.TheVariants.{Healthy}
 use Rattle.gen1_machine.specs.declared.side.Side.{Side}
 use Rattle.gen1_machine.specs.declared.terms.Outcome.TheVariants as outcomes
-use Rattle.gen1_machine.specs.declared.health.Kind.{Kind}
+use Rattle.gen1_machine.specs.declared.event.Kind.{Kind}
 use Rattle.gen1_machine.specs.declared.event.DamageSource.{DamageSource}
 use Rattle.gen1_machine.specs.declared.event.Volatile.{Volatile}
 use Rattle.gen1_machine.specs.declared.event.Event.{Event}

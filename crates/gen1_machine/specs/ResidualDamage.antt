@@ -1,7 +1,7 @@
 -- The damage of poison, a burn and Leech Seed after an action (docs/MECHANICS.md, "Residual damage").
 use Rattle.std.specs.Prelude.{None, Option, Some, max, ℕ, ◌*◌, ◌/◌}
-use Rattle.gen1_stats.specs.declared.status.Status.{Status}
-use Rattle.gen1_stats.specs.declared.status.Status.TheVariants.{Poisoned, Burned}
+use Rattle.gen1_stats.specs.declared.member.Status.{Status}
+use Rattle.gen1_stats.specs.declared.member.Status.TheVariants.{Poisoned, Burned}
 use Rattle.gen1_machine.specs.declared.side.Side.{Side}
 use Rattle.gen1_machine.specs.declared.event.DamageSource.{DamageSource}
 use Rattle.gen1_machine.specs.declared.event.DamageSource.TheVariants as sources

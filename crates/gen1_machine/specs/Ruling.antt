@@ -1,9 +1,9 @@
 -- What a battle's terms settle (docs/MECHANICS.md, "Rules (sleep clause, freeze clause)", "Turn limit"): falling
 -- asleep, freezing, and the last turn.
 use Rattle.std.specs.Prelude.{Bool, false, nat_lt, true, ℕ}
-use Rattle.gen1_stats.specs.declared.status.Status.TheVariants.{Asleep, Frozen}
+use Rattle.gen1_stats.specs.declared.member.Status.TheVariants.{Asleep, Frozen}
 use Rattle.gen1_machine.specs.declared.side.Side.{Side}
-use Rattle.gen1_machine.specs.declared.health.Kind.TheVariants as kinds
+use Rattle.gen1_machine.specs.declared.event.Kind.TheVariants as kinds
 use Rattle.gen1_rolls.specs.Streams.{low_bits}
 use Rattle.gen1_stats.specs.Members.{is_marked, is_frozen}
 use Rattle.gen1_machine.specs.Sides.{other}

@@ -1,12 +1,12 @@
 -- What a move may do in addition to its damage (docs/MECHANICS.md, "Side effects").
 use Rattle.std.specs.Prelude.{Bool, List, is_some, length, nat_lt, not, sum_by, ℕ, ◌&&◌, ◌+◌, ◌||◌}
-use Rattle.gen1_tables.specs.declared.element.Element.TheVariants.{Poison, Fire}
+use Rattle.gen1_tables.specs.declared.types.Element.TheVariants.{Poison, Fire}
 use Rattle.gen1_tables.specs.declared.effect.Effect.{Effect}
 use Rattle.gen1_tables.specs.declared.effect.Effect.TheVariants as effects
-use Rattle.gen1_stats.specs.declared.known_move.KnownMove.{KnownMove}
-use Rattle.gen1_stats.specs.declared.status.Status.TheVariants.{Poisoned, Burned, Paralysed}
+use Rattle.gen1_stats.specs.declared.member.KnownMove.{KnownMove}
+use Rattle.gen1_stats.specs.declared.member.Status.TheVariants.{Poisoned, Burned, Paralysed}
 use Rattle.gen1_machine.specs.declared.side.Side.{Side}
-use Rattle.gen1_machine.specs.declared.health.Kind.TheVariants as kinds
+use Rattle.gen1_machine.specs.declared.event.Kind.TheVariants as kinds
 use Rattle.gen1_machine.specs.declared.event.Volatile.TheVariants as volatiles
 use Rattle.gen1_machine.specs.declared.event.Event.TheVariants as events
 use Rattle.gen1_tables.specs.Types.{same_type}

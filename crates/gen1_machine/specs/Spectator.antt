@@ -2,7 +2,7 @@
 use Rattle.std.specs.Prelude.{List, ℕ, ◌≡◌}
 use Rattle.std.specs.List.{flat_map}
 use Rattle.gen1_stats.specs.Members.{IsTeam, Member}
-use Rattle.gen1_machine.specs.declared.choice.Choice.{Choice}
+use Rattle.gen1_machine.specs.declared.side.Choice.{Choice}
 use Rattle.gen1_machine.specs.State.{first_state, Terms}
 use Rattle.gen1_machine.specs.Step.{events_of, run, Ran}
 use Rattle.gen1_machine.specs.View.{first_view, sees_all, shows}

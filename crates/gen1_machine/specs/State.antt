@@ -1,21 +1,21 @@
 -- The state of a battle: two sides with their members, what is between them, and the terms of the battle.
 use Rattle.std.specs.Prelude.{Bool, List, None, Option, Some, false, if◌then◌else◌, min, nat_le, not, slice_index_or, slice_set, true, ℕ, ◌&&◌, ◌+◌, ◌-◌, ◌==◌, ◌||◌}
-use Rattle.gen1_tables.specs.declared.element.Element.{Element}
-use Rattle.gen1_tables.specs.declared.element.Element.TheVariants.{Normal}
-use Rattle.gen1_stats.specs.declared.known_move.KnownMove.{KnownMove}
-use Rattle.gen1_stats.specs.declared.status.Status.{Status}
-use Rattle.gen1_stats.specs.declared.status.Status.TheVariants.{Healthy, Asleep, Poisoned, Burned, Frozen, Paralysed}
+use Rattle.gen1_tables.specs.declared.types.Element.{Element}
+use Rattle.gen1_tables.specs.declared.types.Element.TheVariants.{Normal}
+use Rattle.gen1_stats.specs.declared.member.KnownMove.{KnownMove}
+use Rattle.gen1_stats.specs.declared.member.Status.{Status}
+use Rattle.gen1_stats.specs.declared.member.Status.TheVariants.{Healthy, Asleep, Poisoned, Burned, Frozen, Paralysed}
 use Rattle.gen1_machine.specs.declared.side.Side.{Side}
 use Rattle.gen1_machine.specs.declared.side.Side.TheVariants.{One, Two}
 use Rattle.gen1_machine.specs.declared.terms.Outcome.{Outcome}
 use Rattle.gen1_machine.specs.declared.terms.Outcome.TheVariants as outcomes
 use Rattle.gen1_machine.specs.declared.terms.Request.{Request}
 use Rattle.gen1_machine.specs.declared.terms.Request.TheVariants as requests
-use Rattle.gen1_machine.specs.declared.health.Kind.{Kind}
-use Rattle.gen1_machine.specs.declared.health.Kind.TheVariants as kinds
-use Rattle.gen1_machine.specs.declared.health.Who.{Who}
-use Rattle.gen1_machine.specs.declared.picks.UsedMove.{UsedMove}
-use Rattle.gen1_machine.specs.declared.picks.UsedMove.TheVariants.{Nothing, Slot}
+use Rattle.gen1_machine.specs.declared.event.Kind.{Kind}
+use Rattle.gen1_machine.specs.declared.event.Kind.TheVariants as kinds
+use Rattle.gen1_machine.specs.declared.event.Who.{Who}
+use Rattle.gen1_machine.specs.declared.side.UsedMove.{UsedMove}
+use Rattle.gen1_machine.specs.declared.side.UsedMove.TheVariants.{Nothing, Slot}
 use Rattle.gen1_tables.specs.Types.{same_type, any}
 use Rattle.gen1_stats.specs.Members.{nobody, nothing_known, is_living, Member}
 use Rattle.gen1_machine.specs.Health.{Health}

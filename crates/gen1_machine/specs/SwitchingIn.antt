@@ -4,8 +4,8 @@ use Rattle.gen1_machine.specs.declared.side.Side.{Side}
 use Rattle.gen1_machine.specs.declared.side.Side.TheVariants.{One, Two}
 use Rattle.gen1_machine.specs.declared.event.Event.{Event}
 use Rattle.gen1_machine.specs.declared.event.Event.TheVariants as events
-use Rattle.gen1_machine.specs.declared.choice.Choice.{Choice}
-use Rattle.gen1_machine.specs.declared.choice.Choice.TheVariants as choices
+use Rattle.gen1_machine.specs.declared.side.Choice.{Choice}
+use Rattle.gen1_machine.specs.declared.side.Choice.TheVariants as choices
 use Rattle.gen1_tables.specs.Species.{species_row}
 use Rattle.gen1_stats.specs.Members.{Member}
 use Rattle.gen1_machine.specs.Sides.{other}

@@ -2,9 +2,9 @@
 use Rattle.std.specs.Prelude.{Bool, List, None, Option, Some, [], false, ℕ, ◌==◌, ◌||◌, ◌∷◌}
 use Rattle.gen1_machine.specs.declared.side.Side.{Side}
 use Rattle.gen1_machine.specs.declared.side.Side.TheVariants.{One, Two}
-use Rattle.gen1_machine.specs.declared.picks.Pick.{Pick}
-use Rattle.gen1_machine.specs.declared.choice.Choice.{Choice}
-use Rattle.gen1_machine.specs.declared.choice.Choice.TheVariants as choices
+use Rattle.gen1_machine.specs.declared.side.Pick.{Pick}
+use Rattle.gen1_machine.specs.declared.side.Choice.{Choice}
+use Rattle.gen1_machine.specs.declared.side.Choice.TheVariants as choices
 use Rattle.gen1_machine.specs.Sides.{other}
 use Rattle.gen1_machine.specs.Conditions.{without_trapping, without_flinch}
 use Rattle.gen1_machine.specs.State.{with_picked_move, is_over}

@@ -14,18 +14,18 @@ use Rattle.std.specs.Prelude.{All, Bool, List, None, Option, Some, false, is_som
 use Rattle.gen1_tables.specs.declared.effect.Effect.{Effect}
 use Rattle.gen1_tables.specs.Types.{any}
 use Rattle.gen1_rolls.specs.Streams.{IsStream, Link}
-use Rattle.gen1_stats.specs.declared.known_move.KnownMove.{KnownMove}
-use Rattle.gen1_stats.specs.declared.status.Status.{Status}
-use Rattle.gen1_stats.specs.declared.status.Status.TheVariants.{Asleep, Healthy}
+use Rattle.gen1_stats.specs.declared.member.KnownMove.{KnownMove}
+use Rattle.gen1_stats.specs.declared.member.Status.{Status}
+use Rattle.gen1_stats.specs.declared.member.Status.TheVariants.{Asleep, Healthy}
 use Rattle.gen1_stats.specs.Members.{is_living, IsBetween, IsMember, Member}
 use Rattle.gen1_machine.specs.declared.side.Side.{Side}
 use Rattle.gen1_machine.specs.declared.side.Side.TheVariants.{One, Two}
 use Rattle.gen1_machine.specs.declared.terms.Outcome.{Outcome}
 use Rattle.gen1_machine.specs.declared.terms.Outcome.TheVariants as outcomes
 use Rattle.gen1_machine.specs.declared.terms.Request.TheVariants as requests
-use Rattle.gen1_machine.specs.declared.picks.DisabledSlot.{DisabledSlot}
-use Rattle.gen1_machine.specs.declared.picks.UsedMove.{UsedMove}
-use Rattle.gen1_machine.specs.declared.picks.UsedMove.TheVariants.{Slot}
+use Rattle.gen1_machine.specs.declared.side.DisabledSlot.{DisabledSlot}
+use Rattle.gen1_machine.specs.declared.side.UsedMove.{UsedMove}
+use Rattle.gen1_machine.specs.declared.side.UsedMove.TheVariants.{Slot}
 use Rattle.gen1_machine.specs.Rules.{Rules}
 use Rattle.gen1_machine.specs.Conditions.{Storing, Underway, ActiveConditions}
 use Rattle.gen1_machine.specs.State.{has_fallen_in, member_at, nobody_out, party, Stages, Active, Party, Field, Terms, State}

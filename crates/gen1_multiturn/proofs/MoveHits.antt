@@ -13,15 +13,15 @@ use Rattle.gen1_multiturn.specs.declared.move_hits.hit_effects.Consequence.{Cons
 use Rattle.gen1_multiturn.specs.MoveHits.{consequence_of, is_multi_hit, how_many, is_neutral}
 use Rattle.gen1_machine.specs.FixedDamage.{deal_fixed, half_hp, is_psywave, psywave}
 use Rattle.gen1_machine.specs.Sides.{other}
-use Rattle.gen1_stats.specs.declared.known_move.KnownMove.{KnownMove}
+use Rattle.gen1_stats.specs.declared.member.KnownMove.{KnownMove}
 use Rattle.gen1_stats.specs.Members.{IsBetween}
-use Rattle.gen1_machine.specs.declared.picks.UsedMove.{UsedMove}
-use Rattle.gen1_machine.specs.declared.picks.UsedMove.TheVariants.{Nothing, Slot, Struggle}
+use Rattle.gen1_machine.specs.declared.side.UsedMove.{UsedMove}
+use Rattle.gen1_machine.specs.declared.side.UsedMove.TheVariants.{Nothing, Slot, Struggle}
 use Rattle.gen1_machine.specs.Picks.{number_in}
 use Rattle.gen1_machine.specs.Valid.{IsUsedMove}
 use Rattle.gen1_hits.proofs.Planning.{slot-number}
 use Rattle.std.proofs.lemmas.Bool.{and_parts}
-use Rattle.gen1_tables.specs.declared.element.Element.{Element}
+use Rattle.gen1_tables.specs.declared.types.Element.{Element}
 use Rattle.gen1_tables.specs.Types.{TypeRow, rows_against, tenths_of}
 use Rattle.gen1_machine.specs.Damage.{numbers, numbers_in, rows_of}
 use Rattle.gen1_tables.specs.declared.effect.Effect.TheVariants as effects

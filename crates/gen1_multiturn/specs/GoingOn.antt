@@ -2,7 +2,7 @@
 -- (docs/MECHANICS.md, "Going on", "Charging"). If the move is on already, it continues, as for a side that continues
 -- its move. Otherwise it begins.
 use Rattle.gen1_machine.specs.declared.side.Side.{Side}
-use Rattle.gen1_machine.specs.declared.picks.Pick.TheVariants.{Continue, Use}
+use Rattle.gen1_machine.specs.declared.side.Pick.TheVariants.{Continue, Use}
 use Rattle.gen1_machine.specs.Moves.{Move}
 use Rattle.gen1_machine.specs.Progress.{Phase, ◌▸◌, choose, underway, Progress, active, given}
 use Rattle.gen1_machine.specs.GoingOn.{thrash_about, trap, bide_goes_on, let_out}
@@ -10,7 +10,7 @@ use Rattle.gen1_machine.specs.Action.{see_if_going_on}
 use Rattle.std.specs.Prelude.{None, Option, Some, if◌then◌else◌, is_some, nat_le, ℕ, length}
 use Rattle.gen1_machine.specs.Conditions.{energy_with, Storing}
 use Rattle.gen1_machine.specs.LateEffects.{start_bide}
-use Rattle.gen1_machine.specs.declared.picks.Pick.{Pick}
+use Rattle.gen1_machine.specs.declared.side.Pick.{Pick}
 use Rattle.gen1_machine.specs.Charging.{charge}
 use Rattle.gen1_machine.specs.Picks.{used_by}
 use Rattle.gen1_machine.specs.State.{active_in, member_in}

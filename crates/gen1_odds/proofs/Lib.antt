@@ -2,7 +2,6 @@
 pub mod Counts
 -- The hit test by its draw, and the phases that contain it.
 pub mod Tested
-pub mod Dealt
 -- The gate of a turn that begins, by its draws.
 pub mod Gated
 -- A side effect, by its draw.

@@ -13,16 +13,16 @@ use Rattle.gen1_odds.specs.Laws.{fails_by, misses, Acting, BreaksIfNeeded, Confu
 use Rattle.gen1_odds.specs.Odds.{hits_by, passes}
 use Rattle.gen1_odds.specs.Trials.{first, settled_reason, why_settled, base_in}
 use Rattle.std.proofs.lemmas.Bool.Decides.{nat_tests}
-use Rattle.gen1_tables.specs.declared.element.Element.TheVariants.{Electric, Grass, Ground, Poison}
+use Rattle.gen1_tables.specs.declared.types.Element.TheVariants.{Electric, Grass, Ground, Poison}
 use Rattle.gen1_tables.specs.Types.{same_type}
-use Rattle.gen1_stats.specs.declared.status.Status.{Status}
-use Rattle.gen1_stats.specs.declared.status.Status.TheVariants.{Paralysed, Poisoned}
-use Rattle.gen1_machine.specs.declared.health.Kind.{Kind}
+use Rattle.gen1_stats.specs.declared.member.Status.{Status}
+use Rattle.gen1_stats.specs.declared.member.Status.TheVariants.{Paralysed, Poisoned}
+use Rattle.gen1_machine.specs.declared.event.Kind.{Kind}
 use Rattle.gen1_machine.specs.Conditions.{with_bad_poison, with_seed, ActiveConditions}
 use Rattle.gen1_machine.specs.EarlyEffects.{confuse, confuse_foe, confused_by, paralyse_foe, poison_foe, seed_foe}
 use Rattle.gen1_machine.specs.Sides.{other}
 use Rattle.gen1_machine.specs.declared.event.Volatile.{Volatile}
-use Rattle.gen1_machine.specs.declared.health.Kind.TheVariants as kinds
+use Rattle.gen1_machine.specs.declared.event.Kind.TheVariants as kinds
 use Rattle.gen1_machine.specs.declared.event.Volatile.TheVariants as volatiles
 use Rattle.gen1_odds.specs.declared.reasons.Reason.TheVariants as reasons
 

@@ -9,16 +9,16 @@ use Rattle.gen1_machine.specs.Moves.{super_fang, Move}
 use Rattle.gen1_machine.specs.Rules.{Rules}
 use Rattle.gen1_machine.specs.Sides.{other}
 use Rattle.gen1_machine.specs.State.{conditions_in, member_in, Field}
-use Rattle.gen1_odds.specs.declared.hit_counts.HitCount.{HitCount}
-use Rattle.gen1_odds.specs.declared.hit_counts.HitCount.TheVariants.{Once, Several, Twice}
+use Rattle.gen1_odds.specs.declared.odds.HitCount.{HitCount}
+use Rattle.gen1_odds.specs.declared.odds.HitCount.TheVariants.{Once, Several, Twice}
 use Rattle.gen1_odds.specs.declared.fixed_uses.Fixed.{Fixed}
 use Rattle.gen1_odds.specs.declared.knock_outs.Between.{Between}
 use Rattle.gen1_odds.specs.declared.knock_outs.Chances.{Chances}
 use Rattle.gen1_odds.specs.declared.knock_outs.Target.{Target}
 use Rattle.gen1_odds.specs.declared.knock_outs.ThreeChances.{ThreeChances}
 use Rattle.gen1_odds.specs.declared.usual_uses.Usual.{Usual}
-use Rattle.gen1_odds.specs.declared.ways.HpChange.{HpChange}
-use Rattle.gen1_odds.specs.declared.ways.Wide.{Wide}
+use Rattle.gen1_odds.specs.declared.knock_outs.HpChange.{HpChange}
+use Rattle.gen1_odds.specs.declared.knock_outs.Wide.{Wide}
 use Rattle.gen1_odds.specs.declared.odds.Odds.{Odds}
 use Rattle.gen1_odds.specs.Odds.{deals_usual, flag, hit_count, odds_in}
 use Rattle.gen1_odds.specs.Trials.{has_substitute_in}

@@ -4,7 +4,7 @@ use Rattle.std.specs.Prelude.{Bool, None, Option, Some, false, if◌then◌else�
 use Rattle.gen1_tables.specs.declared.effect.Effect.{Effect}
 use Rattle.gen1_tables.specs.declared.effect.Effect.TheVariants as effects
 use Rattle.gen1_rolls.specs.Streams.{byte_at, first, IsStream}
-use Rattle.gen1_machine.specs.declared.picks.Pick.{Pick}
+use Rattle.gen1_machine.specs.declared.side.Pick.{Pick}
 use Rattle.gen1_machine.specs.declared.side.Side.{Side}
 use Rattle.gen1_machine.specs.Action.{gate_or_held}
 use Rattle.gen1_machine.specs.Conditions.{without_flinch}

@@ -15,17 +15,17 @@ use Rattle.gen1_machine.specs.Sides.{other}
 use Rattle.gen1_machine.specs.State.{member_in, underway_in, Field, active_in, any_living, conditions_in, has_type, party}
 use Rattle.gen1_hits.specs.DamageNumbers.{damages, has_usual_damage}
 use Rattle.gen1_multiturn.specs.MoveHits.{countered}
-use Rattle.gen1_odds.specs.declared.hit_counts.HitCount.{HitCount}
-use Rattle.gen1_odds.specs.declared.hit_counts.HitCount.TheVariants.{Once, Several, Twice}
+use Rattle.gen1_odds.specs.declared.odds.HitCount.{HitCount}
+use Rattle.gen1_odds.specs.declared.odds.HitCount.TheVariants.{Once, Several, Twice}
 use Rattle.gen1_odds.specs.declared.odds.Damages.{Damages}
 use Rattle.gen1_odds.specs.declared.odds.Odds.{Odds}
 use Rattle.gen1_odds.specs.declared.reasons.Reason.{Reason}
-use Rattle.gen1_odds.specs.declared.trials.Trial.{Trial}
+use Rattle.gen1_odds.specs.declared.sights.Trial.{Trial}
 use Rattle.gen1_odds.specs.Trials.{reason_code, reason_in, is_lowest, base_in, charges_first, released_in, traps_on_in, trial_of, has_status_in, has_substitute_in}
-use Rattle.gen1_tables.specs.declared.element.Element.TheVariants.{Poison}
+use Rattle.gen1_tables.specs.declared.types.Element.TheVariants.{Poison}
 use Rattle.gen1_stats.specs.Members.{is_frozen}
 use Rattle.gen1_tables.specs.declared.effect.Effect.TheVariants as effects
-use Rattle.gen1_odds.specs.declared.trials.Trial.TheVariants as trials
+use Rattle.gen1_odds.specs.declared.sights.Trial.TheVariants as trials
 
 -- The usual damage
 

@@ -5,7 +5,7 @@ use Rattle.gen1_tables.specs.declared.effect.Effect.{Effect}
 use Rattle.gen1_tables.specs.declared.effect.Stat.TheVariants.{Speed}
 use Rattle.gen1_tables.specs.Effects.{charges, traps}
 use Rattle.gen1_stats.specs.Members.{is_healthy, is_asleep, is_marked}
-use Rattle.gen1_machine.specs.declared.picks.Pick.TheVariants.{Continue}
+use Rattle.gen1_machine.specs.declared.side.Pick.TheVariants.{Continue}
 use Rattle.gen1_machine.specs.declared.side.Side.{Side}
 use Rattle.gen1_machine.specs.Action.{keeps_going, move_taken_in}
 use Rattle.gen1_machine.specs.CurrentStats.{now_in}
@@ -17,11 +17,11 @@ use Rattle.gen1_layout.specs.Parts.{Parts}
 use Rattle.gen1_layout.specs.Shows.{Setting, Within}
 use Rattle.gen1_multiturn.specs.GoingOn.{energy_let_out}
 use Rattle.gen1_odds.specs.declared.sights.Sight.{Sight}
-use Rattle.gen1_odds.specs.declared.trials.Trial.{Trial}
+use Rattle.gen1_odds.specs.declared.sights.Trial.{Trial}
 use Rattle.gen1_tables.specs.declared.effect.Stat.{Stat}
-use Rattle.gen1_tables.specs.declared.element.Element.TheVariants.{Electric, Grass, Ground, Poison}
+use Rattle.gen1_tables.specs.declared.types.Element.TheVariants.{Electric, Grass, Ground, Poison}
 use Rattle.gen1_tables.specs.Types.{same_type}
-use Rattle.gen1_stats.specs.declared.status.Status.{Status}
+use Rattle.gen1_stats.specs.declared.member.Status.{Status}
 use Rattle.gen1_machine.specs.Damage.{before_types, numbers_in, type_steps, DamageNumbers}
 use Rattle.gen1_machine.specs.EarlyEffects.{resists_healing}
 use Rattle.gen1_machine.specs.HitTest.{eats_dreams, is_immune, settled_hit_in}
@@ -31,7 +31,7 @@ use Rattle.gen1_multiturn.specs.MoveHits.{countered}
 use Rattle.gen1_odds.specs.declared.reasons.Reason.{Reason}
 use Rattle.gen1_tables.specs.declared.effect.Effect.TheVariants as effects
 use Rattle.gen1_odds.specs.declared.sights.Sight.TheVariants as sights
-use Rattle.gen1_odds.specs.declared.trials.Trial.TheVariants as trials
+use Rattle.gen1_odds.specs.declared.sights.Trial.TheVariants as trials
 use Rattle.gen1_odds.specs.declared.reasons.Reason.TheVariants as reasons
 
 -- The kind of a move's use, by its effect. Damage by the usual numbers is the last.

@@ -7,13 +7,13 @@ ghost use Rattle.gen1_status.specs.Gate.{is_held};
 ghost use Rattle.gen1_odds.specs.Acting.{acting_draws, action_odds_in, confusion_draws, holding_draws, holding_reason, how_many_pairs, acts_by, hurting_draws, is_barred, is_bound, is_kept, is_out_of_action, landing_draws, paralysis_draws, pick_of, slot_of, still_confused, still_disabled};
 ghost use Rattle.gen1_odds.specs.Trials.{hurts_in, ReadsUnder};
 
-use crate::chances::{critical_draws, deals_usual, hit_draws};
+use crate::chances::{critical_draws, deals_usual, hit_draws, side_effect_draws};
+use crate::knock_outs::mixed;
 use crate::odds::flag;
 use crate::reasons::{Reason, hurts, reason_of};
-use crate::side_effects::side_effect_draws;
-use crate::sights::{is_fallen, is_recharging, is_trapping, must_continue};
-use crate::trials::{charges_first, current_number};
-use crate::ways::mixed;
+use crate::sights::{
+    charges_first, current_number, is_fallen, is_recharging, is_trapping, must_continue,
+};
 use gen1_hits::{damage, numbers};
 use gen1_layout::Packed;
 use gen1_machine::{DisabledSlot, Pick, Side, UsedMove};

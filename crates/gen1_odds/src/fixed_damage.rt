@@ -4,7 +4,7 @@ ghost use Rattle.gen1_layout.specs.Words.{Reads, member_in, move_at};
 ghost use Rattle.gen1_machine.specs.FixedDamage.{half_hp};
 ghost use Rattle.gen1_odds.specs.Odds.{fixed_by, fixed_in, fixed_of, psywave_range, twin};
 
-use crate::trials::{Trial, traps_on, trial_of};
+use crate::sights::{Trial, traps_on, trial_of};
 use gen1_layout::Packed;
 use gen1_machine::Side;
 use gen1_multiturn::{counter, energy_let_out};

@@ -4,9 +4,8 @@ ghost use Rattle.std.specs.Prelude.{max, min, sum_by, ◌*◌, ◌+◌, ◌-◌,
 ghost use Rattle.std.specs.List.{range_with_len};
 ghost use Rattle.gen1_odds.specs.KnockOut.{IsKnown, KnowsOnceFixed, after_change, after_fixed, after_fixed_use, fixed_ways, over, taken, three_uses, two_uses};
 
-use crate::knock_outs::Between;
+use crate::knock_outs::{Between, HpChange, changed, mixed, mixed_wide, over};
 use crate::odds::Odds;
-use crate::ways::{HpChange, changed, mixed, mixed_wide, over};
 
 /// Uses against a foe.
 #[derive(Drop)]

@@ -1,22 +1,21 @@
-//! The chance that one use of a move knocks out the foe, or two or three in a row (docs/MECHANICS.md, "Landing", "Many hits").
-ghost use Rattle.std.specs.Prelude.{false, if◌then◌else◌, max, min, true, ◌*◌, ◌+◌, ◌≡◌, ◌≤◌};
-ghost use Rattle.gen1_layout.specs.Words.{Reads, move_at, ℕ};
-ghost use Rattle.gen1_odds.specs.KnockOut.{AreChances, AreThree, after_fixed, after_usual, between_in, chances_in, chances_of, fixed_ways, halves_in, needed_in, no_change, over, three_chances_in, three_of, two_trapping, usual_chances, usual_three};
-ghost use Rattle.gen1_odds.specs.declared.hit_counts.HitCount.TheVariants.{Once};
-ghost use Rattle.gen1_odds.specs.Odds.{hit_count};
+//! The chance that one use of a move knocks out the foe, or two or three in a row: numbers of equally likely ways, and
+//! the HP that are left between uses (docs/MECHANICS.md, "Landing", "Many hits", "Residual damage").
+ghost use Rattle.std.specs.Prelude.{false, if◌then◌else◌, max, min, true, ◌%◌, ◌*◌, ◌+◌, ◌-◌, ◌/◌, ◌≡◌, ◌≤◌};
 ghost use Rattle.gen1_tables.specs.Effects.{traps};
+ghost use Rattle.gen1_layout.specs.Words.{Reads, move_at, ℕ};
+ghost use Rattle.gen1_odds.specs.KnockOut.{AreChances, AreThree, after_fixed, after_usual, between_in, chances_in, chances_of, changed, fixed_ways, halves_in, in_words, mixed, needed_in, no_change, over, three_chances_in, three_of, two_trapping, usual_chances, usual_three};
+ghost use Rattle.gen1_odds.specs.declared.odds.HitCount.TheVariants.{Once};
+ghost use Rattle.gen1_odds.specs.Odds.{hit_count};
 ghost use Rattle.gen1_odds.specs.Trials.{ReadsUnder};
 
 use crate::chances::deals_usual;
 use crate::fixed_uses::{
     Fixed, fixed_ways, known_once_fixed, once_fixed, thrice_fixed, twice_fixed,
 };
-use crate::hit_counts::{HitCount, hit_count};
-use crate::odds::{Odds, flag, odds_of};
+use crate::odds::{HitCount, Odds, flag, hit_count, odds_of};
 use crate::sights::has_substitute;
 use crate::trapping_uses::{thrice_trapping, twice_trapping};
 use crate::usual_uses::{Usual, WAYS, known_once, once, thrice, twice};
-use crate::ways::{HpChange, NO_CHANGE, Wide, cube, in_words};
 use gen1_layout::Packed;
 use gen1_machine::Side;
 use gen1_tables::{Effect, MoveId};
@@ -310,4 +309,85 @@ fn fixed_three(odds: &Odds, halves: bool, target: &Target) -> ThreeChances
         breaks_substitute: target.breaks_substitute,
         zeros: [0; 7],
     }
+}
+
+/// What happens to the HP of the foe between two uses of a move, if it has any left.
+#[repr(C)]
+#[derive(Clone, Copy)]
+pub struct HpChange {
+    /// The HP that it gains first, up to its maximum.
+    pub gained: u16,
+    /// The HP that it then loses.
+    pub lost: u16,
+}
+
+/// A number of 128 bits.
+#[repr(C)]
+#[derive(Clone, Copy)]
+pub struct Wide {
+    /// The number's remainder by 2^64.
+    pub low: u64,
+    /// The number divided by 2^64.
+    pub high: u64,
+}
+
+const NO_CHANGE: HpChange = HpChange { gained: 0, lost: 0 };
+
+const WORD: u128 = 18_446_744_073_709_551_616;
+
+fn in_words(number: u128) -> Wide
+    ensures { result ≡ in_words number }
+{
+    Wide {
+        low: (number % WORD) as u64,
+        high: (number / WORD) as u64,
+    }
+}
+
+/// The ways of three uses, by those of one.
+fn cube(ways: u64) -> u128
+    requires few { ways ≤ 20447232 }
+    ensures { result ≡ ways * ways * ways }
+{
+    u128::from(ways * ways) * u128::from(ways)
+}
+
+pub(crate) fn over(left: u16) -> u64
+    ensures is { result ≡ over left }
+    ensures most { result ≤ 1 }
+{
+    if left == 0 { 1 } else { 0 }
+}
+
+// Of 256 draws some lead one way, and the others another.
+#[tactic(auto, using(crate::proofs::Counts::parted))]
+pub(crate) fn mixed(draws: u16, one: u64, another: u64) -> u64
+    requires draws { draws ≤ 256 }
+    requires one { one ≤ 18014398509481984 }
+    requires another { another ≤ 18014398509481984 }
+    ensures is { result ≡ mixed draws one another }
+    ensures most { (most : ℕ) → one ≤ most → another ≤ most → result ≤ 256 * most }
+{
+    u64::from(draws) * one + u64::from(256 - draws) * another
+}
+
+// Of more ways.
+pub(crate) fn mixed_wide(draws: u16, one: u128, another: u128) -> u128
+    requires draws { draws ≤ 256 }
+    requires one { one ≤ 1267650600228229401496703205376 }
+    requires another { another ≤ 1267650600228229401496703205376 }
+    ensures { result ≡ mixed draws one another }
+{
+    u128::from(draws) * one + u128::from(256 - draws) * another
+}
+
+// What is needed after a change, of a foe with at most so many HP.
+pub(crate) fn changed(most: u16, change: HpChange, need: u16) -> u16
+    ensures { result ≡ changed most change need }
+{
+    if need == 0 {
+        return 0;
+    }
+    let gained = need.saturating_add(change.gained).min(most).max(need);
+    gained.saturating_sub(change.lost)
 }

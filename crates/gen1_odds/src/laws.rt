@@ -14,31 +14,31 @@ pub fn must_hit_counts()
 {}
 
 /// A move of fixed damage misses by these draws (docs/MECHANICS.md, "Fixed damage and one-hit moves").
-#[tactic(auto, using(crate::proofs::Dealt::fixed_counts))]
+#[tactic(auto, using(crate::proofs::Counts::fixed_counts))]
 pub fn fixed_counts()
     ensures { FixedCounts }
 {}
 
 /// Counter misses without a damage to return, or by these draws (docs/MECHANICS.md, "Counter").
-#[tactic(auto, using(crate::proofs::Dealt::counter_counts))]
+#[tactic(auto, using(crate::proofs::Counts::counter_counts))]
 pub fn counter_counts()
     ensures { CounterCounts }
 {}
 
 /// A one-hit move of a slower user misses (docs/MECHANICS.md, "Fixed damage and one-hit moves").
-#[tactic(auto, using(crate::proofs::Dealt::slower_misses))]
+#[tactic(auto, using(crate::proofs::Counts::slower_misses))]
 pub fn slower_misses()
     ensures { SlowerMisses }
 {}
 
 /// A one-hit move misses a foe that its type has no effect on (docs/MECHANICS.md, "Fixed damage and one-hit moves").
-#[tactic(auto, using(crate::proofs::Dealt::immune_misses))]
+#[tactic(auto, using(crate::proofs::Counts::immune_misses))]
 pub fn immune_misses()
     ensures { ImmuneMisses }
 {}
 
 /// Any other one-hit move misses by these draws (docs/MECHANICS.md, "Fixed damage and one-hit moves").
-#[tactic(auto, using(crate::proofs::Dealt::one_hit_counts))]
+#[tactic(auto, using(crate::proofs::Counts::one_hit_counts))]
 pub fn one_hit_counts()
     ensures { OneHitCounts }
 {}

@@ -4,13 +4,14 @@ ghost use Rattle.gen1_layout.specs.Words.{Reads, active_in, move_at, conditions_
 ghost use Rattle.gen1_machine.specs.HitTest.{eats_dreams};
 ghost use Rattle.gen1_odds.specs.Trials.{bide_by, counter_by, counter_reason, first, fixed_reason, hurts_in, one_hit_reason, reason_by, reason_code, reason_in, reason_number, settled_reason, usual_reason, why_harmless, why_missed, why_settled, ReadsUnder, is_slower_in};
 
-use crate::foe_reasons::{confusion_reason, disable_reason, lower_reason, seed_reason};
-use crate::own_reasons::{
-    conversion_reason, heal_reason, if_up, raise_reason, screen_reason, substitute_reason,
+use crate::effect_reasons::{
+    confusion_reason, conversion_reason, disable_reason, heal_reason, if_up, lower_reason,
+    paralysis_reason, poison_reason, raise_reason, screen_reason, seed_reason, sleep_reason,
+    substitute_reason,
 };
-use crate::sights::{has_focus_energy, has_mist, is_fallen, is_invulnerable};
-use crate::status_reasons::{paralysis_reason, poison_reason, sleep_reason};
-use crate::trials::{Trial, traps_on, trial_of};
+use crate::sights::{
+    Trial, has_focus_energy, has_mist, is_fallen, is_invulnerable, traps_on, trial_of,
+};
 use gen1_hits::{damage, is_immune, numbers, settled_hit, type_steps};
 use gen1_layout::Packed;
 use gen1_machine::Side;

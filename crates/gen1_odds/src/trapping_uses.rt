@@ -4,11 +4,9 @@ ghost use Rattle.std.specs.Prelude.{◌*◌, ◌+◌, ◌-◌, ◌≡◌, ◌≤
 ghost use Rattle.std.specs.List.{sum_by};
 ghost use Rattle.gen1_odds.specs.KnockOut.{after_each, again, over, third_trapping, three_trapping, two_trapping};
 
-use crate::hit_counts::HitCount;
-use crate::knock_outs::Between;
-use crate::odds::Odds;
+use crate::knock_outs::{Between, HpChange, changed, mixed, mixed_wide, over};
+use crate::odds::{HitCount, Odds};
 use crate::usual_uses::{WAYS, once};
-use crate::ways::{HpChange, changed, mixed, mixed_wide, over};
 
 // What is needed after a change of the HP, and the same damage again.
 fn again(most: u16, change: HpChange, damage: u16, need: u16) -> u16

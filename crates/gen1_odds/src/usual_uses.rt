@@ -2,10 +2,8 @@
 ghost use Rattle.std.specs.Prelude.{length, min, ◌*◌, ◌-◌, ◌<◌, ◌≡◌, ◌≤◌, ℕ};
 ghost use Rattle.gen1_odds.specs.KnockOut.{IsKnown, KnowsOnce, after_change, after_either, after_hits, after_use, after_usual, by_count, over, three_uses, two_uses};
 
-use crate::hit_counts::HitCount;
-use crate::knock_outs::Between;
-use crate::odds::Odds;
-use crate::ways::{HpChange, changed, mixed, mixed_wide, over};
+use crate::knock_outs::{Between, HpChange, changed, mixed, mixed_wide, over};
+use crate::odds::{HitCount, Odds};
 
 /// The ways of one use: 256 draws of the hit test and 256 critical draws, 39 factors and 8 cases of the number of hits.
 pub(crate) const WAYS: u64 = 256 * 256 * 39 * 8;

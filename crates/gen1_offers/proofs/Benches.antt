@@ -3,8 +3,8 @@ use Rattle.std.proofs.Common.{Bool, List, [], ap, arith, false, get_or, get_or-s
 use Rattle.std.specs.Prelude.{max}
 use Rattle.std.proofs.lemmas.Bool.Decides.{eqb_tells}
 use Rattle.gen1_stats.specs.Members.{is_living, nobody}
-use Rattle.gen1_machine.specs.declared.choice.Choice.{Choice}
-use Rattle.gen1_machine.specs.declared.choice.Choice.TheVariants as choices
+use Rattle.gen1_machine.specs.declared.side.Choice.{Choice}
+use Rattle.gen1_machine.specs.declared.side.Choice.TheVariants as choices
 use Rattle.gen1_machine.specs.declared.side.Side.{Side}
 use Rattle.gen1_machine.specs.declared.side.Side.TheVariants.{One, Two}
 use Rattle.gen1_machine.specs.Layout.{number_of_bits}
@@ -13,7 +13,7 @@ use Rattle.gen1_machine.specs.State.{Active, Field, Party, Terms, active_in, mem
 use Rattle.gen1_machine.specs.Valid.{IsUnstarted}
 use Rattle.gen1_layout.specs.Parts.{Parts}
 use Rattle.gen1_layout.specs.Shows.{Setting, Within}
-use Rattle.gen1_offers.specs.OfferedMask.{Follows, KeepsOut, living_of, passing}
+use Rattle.gen1_offers.specs.OfferedChoices.{Follows, KeepsOut, living_of, passing}
 use Rattle.gen1_offers.proofs.MaskDigits.{and_false}
 
 -- the place of a member that is out

@@ -3,25 +3,25 @@ use Rattle.std.proofs.Common.{Bool, List, Option, [], ap, arith, false, inl, inr
 use Rattle.std.specs.Prelude.{if◌then◌else◌}
 use Rattle.std.proofs.lemmas.Bool.{cases_eq}
 use Rattle.std.proofs.lemmas.List.{length-append, get_or-map, length-map}
-use Rattle.gen1_stats.specs.declared.known_move.KnownMove.{KnownMove}
+use Rattle.gen1_stats.specs.declared.member.KnownMove.{KnownMove}
 use Rattle.gen1_stats.specs.Members.{IsBetween, Member, is_living}
-use Rattle.gen1_machine.specs.declared.picks.DisabledSlot.{DisabledSlot}
+use Rattle.gen1_machine.specs.declared.side.DisabledSlot.{DisabledSlot}
 use Rattle.gen1_machine.specs.declared.side.Side.{Side}
 use Rattle.gen1_machine.specs.declared.side.Side.TheVariants.{One, Two}
-use Rattle.gen1_machine.specs.declared.choice.Choice.{Choice}
+use Rattle.gen1_machine.specs.declared.side.Choice.{Choice}
 use Rattle.gen1_machine.specs.declared.terms.Request.{Request}
 use Rattle.gen1_machine.specs.Layout.{number_of_bits}
 use Rattle.gen1_machine.specs.OfferedChoices.{has_no_slot_in, is_committed, moves_offered, offered, offered_for, or_struggle, switches_offered, others_living_from, usable_from}
 use Rattle.gen1_machine.specs.State.{Field, State, Terms, active_in, is_over, member_in, party, request_of, underway_in, conditions_in}
 use Rattle.gen1_machine.specs.Valid.{IsField, IsStarted, IsState, IsUnstarted}
-use Rattle.gen1_offers.specs.OfferedMask.{all_choices, choices_in, chosen_by, living_of, mask_of, digits_of, moves_and_pass, offered_mask, passing, switches, usable_of}
+use Rattle.gen1_offers.specs.OfferedChoices.{all_choices, choices_in, chosen_by, living_of, mask_of, digits_of, moves_and_pass, offered_mask, passing, switches, usable_of}
 use Rattle.gen1_offers.proofs.OfferedSet.{asks_nothing, if_front, one_if, places_living, slots_usable, move_passes, other_number, switch_passes, usable-behind, four_in}
 use Rattle.gen1_offers.proofs.MaskDigits.{and_false, equal_number, both_digits, move_digits, switch_digits, usable_list}
 use Rattle.std.specs.List.{range_with_len}
 use Rattle.std.proofs.lemmas.List.FromFn.{get_or-range_with_len, length-range_with_len}
 use Rattle.gen1_tables.proofs.Named.{agree_at}
-use Rattle.gen1_offers.specs.declared.mask_choices.TheConstants.{ONES}
-use Rattle.gen1_machine.specs.declared.choice.Choice.TheVariants as choices
+use Rattle.gen1_offers.specs.declared.masks.TheConstants.{ONES}
+use Rattle.gen1_machine.specs.declared.side.Choice.TheVariants as choices
 use Rattle.gen1_machine.specs.declared.terms.Request.TheVariants as requests
 
 -- One more choice, by the lowest digit

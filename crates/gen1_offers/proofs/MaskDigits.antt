@@ -8,18 +8,18 @@ use Rattle.std.specs.Int.RustNames.{bit_and}
 use Rattle.gen1_machine.specs.Rules.{bit_of, Rules}
 use Rattle.gen1_machine.specs.Layout.{number_of_bits, member_block, request_byte, status_byte}
 use Rattle.gen1_layout.proofs.Counts.{and_nothing, bits_clear, bits_of-is, power, power_is}
-use Rattle.gen1_offers.specs.OfferedMask.{passing, all_choices, digits_of, is_usable, living_of, moves_and_pass, usable_of}
+use Rattle.gen1_offers.specs.OfferedChoices.{passing, all_choices, digits_of, is_usable, living_of, moves_and_pass, usable_of}
 use Rattle.gen1_offers.proofs.OfferedSet.{other_number, asks_nothing, one_if, slots_usable, in_moves, no_move, usable_slot, no_move_to_switch, no_pass_to_switch, switch_offered, switches_out, or_no, or_yes, committed_slot, no_pass_to_move, no_slot}
 use Rattle.std.proofs.lemmas.Bool.{cases_lt, false≢true}
 use Rattle.std.proofs.lemmas.List.Elements.{All-get_or}
-use Rattle.gen1_stats.specs.declared.known_move.KnownMove.{KnownMove}
-use Rattle.gen1_stats.specs.declared.status.Status.{Status}
-use Rattle.gen1_stats.specs.declared.status.Status.TheVariants.{Asleep, Burned, Frozen, Healthy, Paralysed, Poisoned}
+use Rattle.gen1_stats.specs.declared.member.KnownMove.{KnownMove}
+use Rattle.gen1_stats.specs.declared.member.Status.{Status}
+use Rattle.gen1_stats.specs.declared.member.Status.TheVariants.{Asleep, Burned, Frozen, Healthy, Paralysed, Poisoned}
 use Rattle.gen1_stats.specs.Members.{IsKnown, IsMember, Member, nothing_known, sleeps_or_freezes, is_living}
 use Rattle.gen1_machine.specs.declared.side.Side.{Side}
 use Rattle.gen1_machine.specs.declared.side.Side.TheVariants.{One, Two}
-use Rattle.gen1_machine.specs.declared.choice.Choice.{Choice}
-use Rattle.gen1_machine.specs.declared.picks.DisabledSlot.{DisabledSlot}
+use Rattle.gen1_machine.specs.declared.side.Choice.{Choice}
+use Rattle.gen1_machine.specs.declared.side.DisabledSlot.{DisabledSlot}
 use Rattle.gen1_machine.specs.declared.terms.Outcome.{Outcome}
 use Rattle.gen1_machine.specs.declared.terms.Request.{Request}
 use Rattle.gen1_machine.specs.OfferedChoices.{bars_slot, has_no_slot_in, is_committed, moves_offered, offered_for, or_struggle, switches_offered, usable_from, offered}
@@ -27,7 +27,7 @@ use Rattle.gen1_machine.specs.State.{Field, State, Terms, active_in, conditions_
 use Rattle.gen1_machine.specs.Step.{is_among, offers}
 use Rattle.gen1_machine.specs.Valid.{IsStarted, IsState, IsStatus, IsUnstarted, StandsAs}
 use Rattle.gen1_machine.specs.Sides.{other}
-use Rattle.gen1_machine.specs.declared.choice.Choice.TheVariants as choices
+use Rattle.gen1_machine.specs.declared.side.Choice.TheVariants as choices
 use Rattle.gen1_machine.specs.declared.terms.Outcome.TheVariants as outcomes
 use Rattle.gen1_machine.specs.declared.terms.Request.TheVariants as requests
 

@@ -1,15 +1,15 @@
 -- The machine's list of offered choices is the set of `specs/OfferedChoices.antt`.
 use Rattle.std.proofs.Common.{Bool, IsTrue, List, [], ap, append-nil, append_assoc, arith, false, get_or, inl, inr, length, length-append, nat_lt, not, refl, suc, sym, true, zero, ℕ, ◌&&◌, ◌++◌, ◌+◌, ◌-◌, ◌<◌, ◌==◌, ◌≡◌, ◌≢◌, ◌≤◌, ◌∙◌, ◌∷◌, ◌||◌, ◌⊎◌, Option, is_some, nat_le, if◌then◌else◌, map, slice_index, subst}
 use Rattle.std.specs.Prelude.{◌↔◌}
-use Rattle.gen1_stats.specs.declared.known_move.KnownMove.{KnownMove}
+use Rattle.gen1_stats.specs.declared.member.KnownMove.{KnownMove}
 use Rattle.gen1_stats.specs.Members.{is_living, nobody, nothing_known, Member, is_asleep, is_frozen}
 use Rattle.gen1_machine.specs.declared.side.Side.{Side}
-use Rattle.gen1_machine.specs.declared.choice.Choice.{Choice}
+use Rattle.gen1_machine.specs.declared.side.Choice.{Choice}
 use Rattle.gen1_machine.specs.State.{conditions_in, known_in, member_at, member_in, party, Field, active_in, is_over, request_of, status_in, underway_in, State, Terms, Party}
 use Rattle.gen1_machine.specs.OfferedChoices.{bars_slot, or_struggle, others_living_from, usable_from, has_no_slot_in, is_committed, moves_offered, offered, offered_for, switches_offered}
 use Rattle.std.proofs.lemmas.Bool.{false≢true}
 use Rattle.std.proofs.lemmas.Bool.Decides.{eqb_tells, leb_tells}
-use Rattle.gen1_machine.specs.declared.picks.DisabledSlot.{DisabledSlot}
+use Rattle.gen1_machine.specs.declared.side.DisabledSlot.{DisabledSlot}
 use Rattle.gen1_machine.specs.declared.terms.Outcome.{Outcome}
 use Rattle.gen1_machine.specs.declared.terms.Request.{Request}
 use Rattle.gen1_machine.specs.Sides.{other}
@@ -25,7 +25,7 @@ use Rattle.std.proofs.lemmas.List.Elements.{All-get_or}
 use Rattle.std.proofs.lemmas.List.{map-append}
 use Rattle.std.specs.List.Sorted.{IsStrictlyIncreasing}
 use Rattle.gen1_machine.specs.Choices.{byte_of_choice}
-use Rattle.gen1_machine.specs.declared.choice.Choice.TheVariants as choices
+use Rattle.gen1_machine.specs.declared.side.Choice.TheVariants as choices
 use Rattle.gen1_machine.specs.declared.terms.Outcome.TheVariants as outcomes
 use Rattle.gen1_machine.specs.declared.terms.Request.TheVariants as requests
 

@@ -6,7 +6,7 @@ ghost use Rattle.gen1_layout.specs.Shows.{Stands};
 ghost use Rattle.gen1_machine.specs.Layout.{number_of_bits};
 ghost use Rattle.gen1_machine.specs.Rules.{bit_of};
 ghost use Rattle.gen1_machine.specs.State.{State};
-ghost use Rattle.gen1_offers.specs.OfferedMask.{Follows, IsBench, IsInRange, living_of, offered_mask, passing};
+ghost use Rattle.gen1_offers.specs.OfferedChoices.{Follows, IsBench, IsInRange, living_of, offered_mask, passing};
 
 use crate::masks::mask;
 use gen1_layout::Packed;

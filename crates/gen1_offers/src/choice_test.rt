@@ -7,7 +7,7 @@ ghost use Rattle.gen1_machine.specs.Layout.{status_byte};
 ghost use Rattle.gen1_machine.specs.OfferedChoices.{bars_slot, has_no_slot_in, is_committed, offered_for, switches_offered};
 ghost use Rattle.gen1_machine.specs.State.{State};
 ghost use Rattle.gen1_machine.specs.Step.{is_among, offers};
-ghost use Rattle.gen1_machine.specs.declared.choice.Choice.TheVariants as choices;
+ghost use Rattle.gen1_machine.specs.declared.side.Choice.TheVariants as choices;
 ghost use Rattle.gen1_machine.specs.declared.terms.Request.TheVariants as requests;
 
 use crate::bench::lives;

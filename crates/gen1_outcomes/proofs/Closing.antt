@@ -5,7 +5,7 @@ use Rattle.std.specs.List.{refill}
 use Rattle.gen1_layout.proofs.Words.{Bool, Frame, Phase, Progress, Shows, Side, Telling}
 use Rattle.gen1_rolls.specs.Draws.{Drawing, Source, StandsIn}
 use Rattle.gen1_rolls.proofs.Standing.{stands_there}
-use Rattle.gen1_machine.specs.declared.picks.Pick.{Pick}
+use Rattle.gen1_machine.specs.declared.side.Pick.{Pick}
 use Rattle.gen1_machine.specs.declared.side.Side.TheVariants.{One}
 use Rattle.gen1_machine.specs.Action.{begin}
 use Rattle.gen1_machine.specs.Falls.{close}
@@ -22,7 +22,7 @@ use Rattle.gen1_layout.proofs.WaysBack.{parts-bytes_of}
 use Rattle.gen1_layout.proofs.Views.{refill-same}
 use Rattle.gen1_hits.specs.declared.known.Known.{Known}
 use Rattle.gen1_hits.specs.Knowing.{ShowsOver, knowing, with_broke}
-use Rattle.gen1_turn.specs.TurnParts.{PartLeaves, suffering}
+use Rattle.gen1_turn.specs.TwoParts.{PartLeaves, suffering}
 use Rattle.gen1_outcomes.specs.Beginning.{second_action}
 use Rattle.gen1_outcomes.specs.Listing.{untold}
 

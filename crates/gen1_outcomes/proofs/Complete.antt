@@ -2,9 +2,9 @@
 use Rattle.std.proofs.Common.{◌≡◌, ◌⊎◌, inl, inr, ℕ, zero, suc, ◌*◌, ◌+◌, ◌<◌, ◌≤◌, ◌==◌, Bool, IsTrue, true, false, List, [], ◌∷◌, Option, None, Some, add-one, ap, arith, cond, get_or, length, refl, subst, sym, ◌∙◌, Err, IfOk, Ok, OnOk, Result}
 use Rattle.std.proofs.lemmas.Bool.Decides.{nat_tests}
 use Rattle.std.proofs.lemmas.List.{get_or_default}
-use Rattle.gen1_rolls.specs.declared.look.ByteTest.{ByteTest}
-use Rattle.gen1_rolls.specs.declared.look.Look.{Look}
-use Rattle.gen1_rolls.specs.declared.look.Look.TheVariants.{Below, Factor, Remainder, RotatedBelow}
+use Rattle.gen1_rolls.specs.declared.rolls.ByteTest.{ByteTest}
+use Rattle.gen1_rolls.specs.declared.rolls.Look.{Look}
+use Rattle.gen1_rolls.specs.declared.rolls.Look.TheVariants.{Below, Factor, Remainder, RotatedBelow}
 use Rattle.gen1_rolls.specs.Streams.{passes, sees, IsStream, Stream, byte_at, first}
 use Rattle.gen1_rolls.proofs.First.{first-exists, first-finds, byte-small}
 use Rattle.gen1_outcomes.specs.declared.byte_set.ByteSet.{ByteSet}
@@ -14,7 +14,7 @@ use Rattle.gen1_outcomes.specs.declared.nodes.Asked.{Asked}
 use Rattle.gen1_outcomes.specs.declared.nodes.Asked.TheVariants.{First, Next, Unknown}
 use Rattle.gen1_outcomes.specs.declared.nodes.Node.{Node}
 use Rattle.gen1_outcomes.specs.declared.nodes.Nodes.{Nodes}
-use Rattle.gen1_outcomes.specs.declared.options.OutcomeOptions.{OutcomeOptions}
+use Rattle.gen1_outcomes.specs.declared.successor.OutcomeOptions.{OutcomeOptions}
 use Rattle.gen1_outcomes.specs.Nodes.{AllDone, AreBytes, AreLeft, AreOn, AreToCome, IsSettled, LeadsOn, Notes, Passes, asked_at, script_of}
 use Rattle.gen1_outcomes.specs.Bytes.{has, alike_in, told}
 use Rattle.gen1_outcomes.specs.Complete.{GoesBy, IsExact, IsToCome, WaitsAfter, byte_for, byte_or_zero, place_asked, place_before, IsListed, ListsEvery, Extends, FollowsFrom, IsHandled, ArrivesAt, Lists, ListsFrom, ListsHandled, LosesNone, Offers, OffersTwo}
@@ -22,24 +22,24 @@ use Rattle.gen1_outcomes.specs.Logs.{AllFit, Fits, NotesAll, NotesEntry, place_a
 use Rattle.gen1_outcomes.proofs.Logs.{entry_keeps}
 use Rattle.gen1_outcomes.proofs.Shifts.{NoneMissed, arrives_by, dropped, dropped-is, follows_arrived}
 use Rattle.gen1_outcomes.proofs.Walking.{at, some_node}
-use Rattle.gen1_machine.specs.declared.choice.Choice.{Choice}
+use Rattle.gen1_machine.specs.declared.side.Choice.{Choice}
 use Rattle.gen1_machine.specs.State.{State}
 use Rattle.gen1_layout.specs.Parts.{Parts, joined}
 use Rattle.gen1_layout.specs.Shows.{Stands}
 use Rattle.gen1_engine.specs.Update.{AreOffered}
-use Rattle.gen1_outcomes.specs.declared.fault.OutcomesFault.{OutcomesFault}
+use Rattle.gen1_outcomes.specs.declared.successor.OutcomesFault.{OutcomesFault}
 use Rattle.gen1_outcomes.specs.declared.merging.Tally.{Tally}
 use Rattle.gen1_outcomes.specs.declared.middles.Middle.{Middle}
 use Rattle.gen1_outcomes.specs.declared.nodes.Chance.{Chance}
 use Rattle.gen1_outcomes.specs.declared.outcomes.Outcomes.{Outcomes}
 use Rattle.gen1_outcomes.specs.declared.successor.Successor.{Successor}
-use Rattle.gen1_outcomes.specs.Following.{IsBegun, Walk}
-use Rattle.gen1_outcomes.specs.Listing.{KeepsFirst, AreThose}
+use Rattle.gen1_outcomes.specs.Plain.{IsBegun, Walk}
+use Rattle.gen1_outcomes.specs.Listing.{AreThose, KeepsFirst}
 use Rattle.gen1_outcomes.specs.Middles.{Arrives, IsAdded, IsAt, Reaches}
-use Rattle.gen1_outcomes.specs.Shares.{Adds}
+use Rattle.gen1_outcomes.specs.Weights.{Adds}
 use Rattle.gen1_outcomes.specs.declared.beginning.Left.{Left}
 use Rattle.gen1_outcomes.specs.declared.middles.Middles.{Middles}
-use Rattle.gen1_outcomes.specs.declared.script.Script.{Script}
+use Rattle.gen1_outcomes.specs.declared.explorer.Script.{Script}
 use Rattle.gen1_outcomes.proofs.Lists.{same_or}
 
 three : (m n : ℕ) → (m < n) ⊎ (m ≡ n) ⊎ (n < m)

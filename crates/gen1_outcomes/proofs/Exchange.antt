@@ -26,9 +26,8 @@ use Rattle.gen1_machine.proofs.Trees.{after-tree, choose-tree, searched, stay-tr
 use Rattle.gen1_machine.proofs.TreeWalk.{close_update-tree, hit_or_miss-tree, keep_accuracy-tree, late_effect-tree, resume-tree, ruling-tree, strike-tree, vary-tree}
 use Rattle.gen1_turn.specs.declared.action.two_parts.Roll.{Roll}
 use Rattle.gen1_turn.specs.Action.{late_part}
-use Rattle.gen1_turn.specs.TurnParts.{suffering}
-use Rattle.gen1_turn.specs.TwoParts.{parts_from_roll, IsRolling}
-use Rattle.gen1_outcomes.specs.Exchanged.{after_test, roll_if_hit, tested_first}
+use Rattle.gen1_turn.specs.TwoParts.{suffering, parts_from_roll, IsRolling}
+use Rattle.gen1_outcomes.specs.Listing.{after_test, roll_if_hit, tested_first}
 use Rattle.gen1_outcomes.specs.Beginning.{from_damage}
 use Rattle.gen1_outcomes.proofs.Shifts.{suffering-tree}
 

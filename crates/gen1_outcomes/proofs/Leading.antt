@@ -12,16 +12,15 @@ use Rattle.gen1_outcomes.specs.declared.merging.Tally.{Tally}
 use Rattle.gen1_outcomes.specs.declared.middles.Middle.{Middle}
 use Rattle.gen1_outcomes.specs.declared.nodes.Chance.{Chance}
 use Rattle.gen1_outcomes.specs.declared.nodes.Nodes.{Nodes}
-use Rattle.gen1_outcomes.specs.declared.options.OutcomeOptions.{OutcomeOptions}
+use Rattle.gen1_outcomes.specs.declared.successor.OutcomeOptions.{OutcomeOptions}
 use Rattle.gen1_outcomes.specs.declared.successor.Successor.{Successor}
 use Rattle.gen1_outcomes.specs.Complete.{Extends, FollowsFrom, IsExact, Lists, ListsFrom, Offers}
-use Rattle.gen1_outcomes.specs.Following.{AreOf, Walk}
+use Rattle.gen1_outcomes.specs.Plain.{AreOf, Walk}
 use Rattle.gen1_outcomes.specs.Listing.{untold}
 use Rattle.gen1_outcomes.specs.Logs.{Agrees, place_at}
 use Rattle.gen1_outcomes.specs.Middles.{IsReached, ReachesFrom}
 use Rattle.gen1_outcomes.specs.Nodes.{IsChance, script_of, scripted}
-use Rattle.gen1_outcomes.specs.Shares.{CountsEach}
-use Rattle.gen1_outcomes.specs.Weights.{AddsPart, AreEqual, Fraction, HasPart, HasRest, IsTreeFrom, are_of, of_chance, plus, share_of, times}
+use Rattle.gen1_outcomes.specs.Weights.{CountsEach, AddsPart, AreEqual, Fraction, HasPart, HasRest, IsTreeFrom, are_of, of_chance, plus, share_of, times}
 use Rattle.gen1_outcomes.proofs.Complete.{AreKnown, IsGoingFrom, IsPastFrom, lists_as, past_as, past_way}
 use Rattle.gen1_outcomes.proofs.Positions.{at_reached}
 use Rattle.gen1_outcomes.proofs.Shifts.{dropped, dropped-is, resumed}

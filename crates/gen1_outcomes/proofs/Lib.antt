@@ -20,6 +20,5 @@ pub mod Shifts
 pub mod Stages
 pub mod Table
 pub mod Walking
-pub mod Walks
 pub mod Weighing
 pub mod Weights

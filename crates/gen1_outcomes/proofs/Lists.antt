@@ -2,20 +2,19 @@
 use Rattle.std.proofs.Common.{◌≡◌, ◌≢◌, ℕ, Err, IfOk, Ok, OnErr, OnOk, Result, ◌+◌, ◌<◌, ◌≤◌, List, length, get_or-set_other, get_or-set_same, set, ◌⊎◌, inl, inr, ap, subst, sym, ◌∙◌, arith, get_or}
 use Rattle.std.proofs.lemmas.List.{get_or_default}
 use Rattle.std.specs.Prelude.{slice_index}
-use Rattle.gen1_machine.specs.declared.choice.Choice.{Choice}
+use Rattle.gen1_machine.specs.declared.side.Choice.{Choice}
 use Rattle.gen1_machine.specs.State.{State}
 use Rattle.gen1_layout.specs.Parts.{Parts}
-use Rattle.gen1_outcomes.specs.declared.fault.OutcomesFault.{OutcomesFault}
-use Rattle.gen1_outcomes.specs.declared.options.OutcomeOptions.{OutcomeOptions}
+use Rattle.gen1_outcomes.specs.declared.successor.OutcomesFault.{OutcomesFault}
+use Rattle.gen1_outcomes.specs.declared.successor.OutcomeOptions.{OutcomeOptions}
 use Rattle.gen1_outcomes.specs.declared.outcomes.Outcomes.{Outcomes}
 use Rattle.gen1_outcomes.specs.declared.successor.Successor.{Successor}
 use Rattle.gen1_layout.specs.Shows.{Stands}
 use Rattle.gen1_engine.specs.Update.{AreOffered}
-use Rattle.gen1_outcomes.specs.Following.{IsBegun, Walk}
-use Rattle.gen1_outcomes.specs.Merging.{IsFull}
+use Rattle.gen1_outcomes.specs.Plain.{IsBegun, Walk}
+use Rattle.gen1_outcomes.specs.Middles.{IsFull, Gets, GoOnAlike, HasTooMuch, IsTooMuch, Joins}
 use Rattle.gen1_outcomes.specs.declared.middles.Middle.{Middle}
 use Rattle.gen1_outcomes.specs.declared.middles.Middles.{Middles}
-use Rattle.gen1_outcomes.specs.Middles.{Gets, GoOnAlike, HasTooMuch, IsTooMuch, Joins}
 use Rattle.gen1_outcomes.specs.Listing.{AreThose, AreThoseOr, EachFollows, FollowsBy, KeepsFirst, StillFollow, battle_at}
 
 pub same_or : (m n : ℕ) → (m ≡ n) ⊎ (m ≢ n)

@@ -1,20 +1,20 @@
 -- Logs with one entry more, and the draws of an explorer.
 use Rattle.std.proofs.Common.{◌≡◌, ◌≢◌, inl, inr, ℕ, ◌+◌, ◌<◌, List, [], ◌∷◌, ◌++◌, Option, None, Some, IfNone, IfSome, IsFalse, IsTrue, ap, append-nil, append_assoc, arith, refl, subst, sym, ◌∙◌}
 use Rattle.std.specs.Borrow.{GName}
-use Rattle.gen1_rolls.specs.declared.look.ByteTest.{ByteTest}
-use Rattle.gen1_rolls.specs.declared.look.Look.{Look}
-use Rattle.gen1_rolls.specs.declared.look.Look.TheVariants.{Remainder}
+use Rattle.gen1_rolls.specs.declared.rolls.ByteTest.{ByteTest}
+use Rattle.gen1_rolls.specs.declared.rolls.Look.{Look}
+use Rattle.gen1_rolls.specs.declared.rolls.Look.TheVariants.{Remainder}
 use Rattle.gen1_rolls.specs.Draws.{Finds, IsNext, Misses, Since, StandsIn, StepsTo}
 use Rattle.gen1_rolls.specs.Streams.{passes, sees, IsStream, Stream, byte_at, first, span}
 use Rattle.gen1_rolls.specs.Steady.{StandsAt, steady, stream_of}
 use Rattle.gen1_rolls.proofs.First.{byte-small}
 use Rattle.gen1_rolls.proofs.Standing.{stands_at_itself}
-use Rattle.gen1_machine.specs.declared.choice.Choice.{Choice}
+use Rattle.gen1_machine.specs.declared.side.Choice.{Choice}
 use Rattle.gen1_machine.specs.declared.terms.Request.TheVariants.{Move}
 use Rattle.gen1_machine.specs.State.{State}
 use Rattle.gen1_layout.specs.Parts.{Parts}
 use Rattle.gen1_layout.specs.Shows.{Telling, setting_of}
-use Rattle.gen1_switching.specs.Updates.{Steps, UpdatedDrawing}
+use Rattle.gen1_switching.specs.SwitchingIn.{Steps, UpdatedDrawing}
 use Rattle.gen1_outcomes.specs.declared.byte_set.ByteSet.{ByteSet}
 use Rattle.gen1_outcomes.specs.declared.explorer.Explorer.{Explorer}
 use Rattle.gen1_outcomes.specs.declared.log.Entry.{Entry}
@@ -22,8 +22,8 @@ use Rattle.gen1_outcomes.specs.declared.log.Entry.TheVariants.{Draw, Found, Miss
 use Rattle.gen1_outcomes.specs.declared.nodes.Asked.{Asked}
 use Rattle.gen1_outcomes.specs.declared.nodes.Asked.TheVariants.{First, Next}
 use Rattle.gen1_outcomes.specs.declared.nodes.Nodes.{Nodes}
-use Rattle.gen1_outcomes.specs.declared.script.Script.{Script}
-use Rattle.gen1_outcomes.specs.Following.{Leads, turn_on}
+use Rattle.gen1_outcomes.specs.declared.explorer.Script.{Script}
+use Rattle.gen1_outcomes.specs.Plain.{Leads, turn_on}
 use Rattle.gen1_outcomes.specs.Logs.{explored}
 use Rattle.gen1_outcomes.specs.Logs.{AllFit, Draws, FindsAlike, Fits, IsLogged, NotesAll, NotesEntry, place_after, place_at, place_past}
 use Rattle.gen1_outcomes.specs.Nodes.{Notes, Passes, scripted}

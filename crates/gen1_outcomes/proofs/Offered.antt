@@ -1,7 +1,7 @@
 -- A pair that is accepted was offered.
 use Rattle.std.proofs.Common.{◌≡◌, Bool, List, true, false, Err, Ok, Result, Some, ap, refl, subst, sym, ◌∙◌, ℕ}
 use Rattle.gen1_rolls.specs.Steady.{draws_of, stream_of}
-use Rattle.gen1_machine.specs.declared.choice.Choice.{Choice}
+use Rattle.gen1_machine.specs.declared.side.Choice.{Choice}
 use Rattle.gen1_machine.specs.declared.side.Side.TheVariants.{One, Two}
 use Rattle.gen1_machine.specs.Choices.{choice_at}
 use Rattle.gen1_machine.specs.Ruling.{ruling_of}
@@ -16,8 +16,8 @@ use Rattle.gen1_engine.specs.Replay.{both, choices_at}
 use Rattle.gen1_engine.specs.Update.{Answers, AnswersAs, AreOffered, Tests}
 use Rattle.gen1_outcomes.specs.declared.log.Entry.{Entry}
 use Rattle.gen1_outcomes.specs.declared.nodes.Nodes.{Nodes}
-use Rattle.gen1_outcomes.specs.declared.script.Script.{Script}
-use Rattle.gen1_outcomes.specs.Following.{CanFollow, Leads}
+use Rattle.gen1_outcomes.specs.declared.explorer.Script.{Script}
+use Rattle.gen1_outcomes.specs.Plain.{CanFollow, Leads}
 use Rattle.gen1_outcomes.specs.Logs.{Agrees, IsLogged, NotesAll}
 use Rattle.gen1_outcomes.specs.Nodes.{scripted}
 

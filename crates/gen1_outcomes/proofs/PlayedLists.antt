@@ -2,7 +2,7 @@
 -- of the tree of the update.
 use Rattle.std.proofs.Common.{◌≡◌, ◌⊎◌, inl, inr, ℕ, ◌+◌, ◌<◌, ◌++◌, Bool, true, false, if◌then◌else◌, List, Option, None, Some, ap, arith, nat_lt, refl, subst, sym, ◌∙◌, ◌*◌}
 use Rattle.std.proofs.lemmas.Bool.{false≢true}
-use Rattle.gen1_rolls.specs.declared.look.ByteTest.TheVariants.{RotatedAtLeast}
+use Rattle.gen1_rolls.specs.declared.rolls.ByteTest.TheVariants.{RotatedAtLeast}
 use Rattle.gen1_rolls.specs.Streams.{IsStream, Stream, byte_at, first}
 use Rattle.gen1_rolls.proofs.First.{first-exists}
 use Rattle.gen1_layout.specs.Words.{move_at}
@@ -30,15 +30,13 @@ use Rattle.gen1_outcomes.specs.declared.merging.Tally.{Tally}
 use Rattle.gen1_outcomes.specs.declared.middles.Middle.{Middle}
 use Rattle.gen1_outcomes.specs.declared.nodes.Chance.{Chance}
 use Rattle.gen1_outcomes.specs.declared.nodes.Nodes.{Nodes}
-use Rattle.gen1_outcomes.specs.declared.options.OutcomeOptions.{OutcomeOptions}
+use Rattle.gen1_outcomes.specs.declared.successor.OutcomeOptions.{OutcomeOptions}
 use Rattle.gen1_outcomes.specs.declared.successor.Successor.{Successor}
 use Rattle.gen1_outcomes.specs.Complete.{FollowsFrom, IsExact, Lists, ListsFrom, Offers}
-use Rattle.gen1_outcomes.specs.Exchanged.{tested_first}
-use Rattle.gen1_outcomes.specs.Following.{Walk}
-use Rattle.gen1_outcomes.specs.Listing.{KeepsFirst}
+use Rattle.gen1_outcomes.specs.Listing.{KeepsFirst, tested_first}
+use Rattle.gen1_outcomes.specs.Plain.{Walk}
 use Rattle.gen1_outcomes.specs.Nodes.{AllDone, script_of}
-use Rattle.gen1_outcomes.specs.Shares.{Adds}
-use Rattle.gen1_outcomes.specs.Weights.{AddsPart, AreEqual, Fraction, HasPart, HasRest, IsTreeFrom, are_of, of_chance, plus, share_of, times}
+use Rattle.gen1_outcomes.specs.Weights.{Adds, AddsPart, AreEqual, Fraction, HasPart, HasRest, IsTreeFrom, are_of, of_chance, plus, share_of, times}
 use Rattle.gen1_outcomes.proofs.Complete.{IsGoing, IsPast, extends_more, gone, lists_added, lists_as, none_missed, past_as, past_way}
 use Rattle.gen1_outcomes.proofs.Fractions.{equal-refl, equal-trans, plus-equal, times-equal}
 use Rattle.gen1_outcomes.proofs.Positions.{at_reached}

@@ -3,7 +3,7 @@ use Rattle.std.proofs.Common.{◌≡◌, List, ℕ, ◌+◌, ap, arith, subst, �
 use Rattle.gen1_machine.specs.Progress.{Progress}
 use Rattle.gen1_machine.specs.Ruling.{ruling_of}
 use Rattle.gen1_machine.specs.State.{State, Terms}
-use Rattle.gen1_machine.specs.declared.choice.Choice.{Choice}
+use Rattle.gen1_machine.specs.declared.side.Choice.{Choice}
 use Rattle.gen1_layout.specs.Parts.{Parts, parts_of}
 use Rattle.gen1_layout.specs.Shows.{Stands, setting_of}
 use Rattle.gen1_rolls.specs.Steady.{stream_of}
@@ -16,10 +16,10 @@ use Rattle.gen1_outcomes.specs.declared.log.Entry.{Entry}
 use Rattle.gen1_outcomes.specs.declared.middles.Middle.{Middle}
 use Rattle.gen1_outcomes.specs.declared.middles.Middles.{Middles}
 use Rattle.gen1_outcomes.specs.declared.nodes.Nodes.{Nodes}
-use Rattle.gen1_outcomes.specs.declared.options.OutcomeOptions.{OutcomeOptions}
+use Rattle.gen1_outcomes.specs.declared.successor.OutcomeOptions.{OutcomeOptions}
 use Rattle.gen1_outcomes.specs.Beginning.{GoesTo, have_two_actions, left_of}
 use Rattle.gen1_outcomes.specs.Complete.{Offers, OffersTwo}
-use Rattle.gen1_outcomes.specs.Following.{Walk}
+use Rattle.gen1_outcomes.specs.Plain.{Walk}
 use Rattle.gen1_outcomes.specs.Listing.{FollowsBy, IsPart, log_of, width_of}
 use Rattle.gen1_outcomes.specs.Logs.{Agrees, logged, place_at}
 use Rattle.gen1_outcomes.specs.Middles.{AreReached, Arrives, IsAdded, IsAt, IsReached, IsReachedBy, LeadsFrom, PlaysOn, Reaches, ReachesFrom}

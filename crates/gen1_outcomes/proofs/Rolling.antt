@@ -10,8 +10,8 @@ use Rattle.gen1_outcomes.specs.declared.log.Entry.{Entry}
 use Rattle.gen1_outcomes.specs.Logs.{Agrees, place_at, Came, IsLogged, explored, place_past}
 use Rattle.gen1_outcomes.proofs.Shifts.{NoneMissed, joined-low, joined_bytes, joined_wide, place_both, agrees_first, agrees_then, dropped, none_both, on_whole, phase-dropped, ready_on, rest_after, none_each}
 use Rattle.std.specs.Borrow.{GName}
-use Rattle.gen1_rolls.specs.declared.look.ByteTest.TheVariants.{RotatedAtLeast}
-use Rattle.gen1_rolls.specs.declared.look.Look.TheVariants.{Remainder}
+use Rattle.gen1_rolls.specs.declared.rolls.ByteTest.TheVariants.{RotatedAtLeast}
+use Rattle.gen1_rolls.specs.declared.rolls.Look.TheVariants.{Remainder}
 use Rattle.gen1_rolls.specs.Draws.{Source, StepsTo}
 use Rattle.gen1_rolls.specs.Steady.{stream_of}
 use Rattle.gen1_layout.proofs.Chain.{choose-false, choose-true}
@@ -33,9 +33,8 @@ use Rattle.gen1_outcomes.specs.declared.log.Entry.TheVariants.{Found}
 use Rattle.gen1_outcomes.specs.declared.middles.Middle.{Middle}
 use Rattle.gen1_outcomes.specs.declared.nodes.Nodes.{Nodes}
 use Rattle.gen1_outcomes.specs.Beginning.{from_damage}
-use Rattle.gen1_outcomes.specs.Exchanged.{IsShownAt, PlaysRoll, after_test, roll_if_hit, tested_first}
-use Rattle.gen1_outcomes.specs.Following.{AreOf, Leads, Walk}
-use Rattle.gen1_outcomes.specs.Listing.{untold}
+use Rattle.gen1_outcomes.specs.Listing.{IsShownAt, PlaysRoll, after_test, roll_if_hit, tested_first, untold}
+use Rattle.gen1_outcomes.specs.Plain.{AreOf, Leads, Walk}
 use Rattle.gen1_outcomes.specs.Middles.{EndsAt, IsAt, IsPlayedIn, LeadsFrom, PlaysFrom, PlaysOn}
 use Rattle.gen1_outcomes.specs.Nodes.{IsPathOf, script_of, scripted}
 use Rattle.gen1_outcomes.proofs.Complete.{none_missed}

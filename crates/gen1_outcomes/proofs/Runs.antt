@@ -3,7 +3,7 @@ use Rattle.std.proofs.Common.{arith, cond, inl, inr, max, min, nat_le, refl, ap,
 use Rattle.std.proofs.Math.Nat.{le-div_iff_mul-le, mul-le-mul_left, mul-le-mul_right}
 use Rattle.std.proofs.lemmas.Bool.{true≢false}
 use Rattle.std.proofs.lemmas.Bool.Decides.{nat_tests}
-use Rattle.gen1_rolls.specs.declared.look.Look.{Look}
+use Rattle.gen1_rolls.specs.declared.rolls.Look.{Look}
 use Rattle.gen1_outcomes.specs.Bytes.{alike_in, class_of, last_factor, least_factor, part_told, told}
 
 order : (m n : ℕ) → (m ≤ n) ⊎ (n < m)

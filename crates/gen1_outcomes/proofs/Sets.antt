@@ -2,7 +2,7 @@
 use Rattle.std.proofs.Common.{◌≡◌, ◌≢◌, ℕ, zero, suc, ◌+◌, ◌*◌, ◌%◌, ◌/◌, ◌<◌, ◌≤◌, ◌^◌, Bool, true, false, not, ◌==◌, List, [], ◌∷◌, cond, min, ◌-◌, nat_lt, length, get_or, get_or-set_other, get_or-set_same, set, ◌⊎◌, inl, inr, refl, ap, sym, ◌∙◌, arith, max, ap₂, nat_eq}
 use Rattle.std.specs.Int.{bit_at, bit_not, w64, trailing_zeros}
 use Rattle.std.specs.Int.RustNames.{bit_and, bit_or, count_ones}
-use Rattle.gen1_rolls.specs.declared.look.Look.{Look}
+use Rattle.gen1_rolls.specs.declared.rolls.Look.{Look}
 use Rattle.gen1_rolls.specs.Streams.{rotated_left_3, rotated_right_1}
 use Rattle.gen1_outcomes.specs.declared.byte_set.ByteSet.{ByteSet}
 use Rattle.gen1_outcomes.specs.Bytes.{bits_set, has, size, alike_in}

@@ -5,15 +5,15 @@ use Rattle.std.proofs.Math.Nat.{add-mul, mul-le-mul_right}
 use Rattle.std.proofs.lemmas.List.{get_or-take, get_or_default, length-set, length-take}
 use Rattle.std.proofs.lemmas.List.Sums.{sum_by-set}
 use Rattle.gen1_layout.specs.Parts.{Parts, joined}
-use Rattle.gen1_outcomes.specs.declared.fault.OutcomesFault.{OutcomesFault}
+use Rattle.gen1_outcomes.specs.declared.successor.OutcomesFault.{OutcomesFault}
 use Rattle.gen1_outcomes.specs.declared.merging.Tally.{Tally}
 use Rattle.gen1_outcomes.specs.declared.nodes.Chance.{Chance}
 use Rattle.gen1_outcomes.specs.declared.outcomes.Outcomes.{Outcomes}
 use Rattle.gen1_outcomes.specs.declared.successor.Successor.{Successor}
 use Rattle.gen1_outcomes.specs.Chances.{IsBelow}
 use Rattle.gen1_outcomes.specs.Listing.{AreThose, battle_at, weight_of}
-use Rattle.gen1_outcomes.specs.Shares.{Adds, AreProbable, CountsEach, EachIsProbable, GetsShare, Grows, IsLeft, KeepsShares, StayProbable, TakesEach, weight_at, weight_before}
-use Rattle.gen1_outcomes.specs.Merging.{LeavesOut}
+use Rattle.gen1_outcomes.specs.Weights.{Adds, AreProbable, CountsEach, EachIsProbable, GetsShare, Grows, IsLeft, KeepsShares, StayProbable, TakesEach, weight_at, weight_before}
+use Rattle.gen1_outcomes.specs.Middles.{LeavesOut}
 use Rattle.gen1_outcomes.proofs.Fractions.{both_positive, grown, grown_first, least_grown, most_grown, scaled, still_least, still_most}
 
 same_or : (m n : ℕ) → (m ≡ n) ⊎ (m ≢ n)

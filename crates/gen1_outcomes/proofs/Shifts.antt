@@ -9,7 +9,7 @@ use Rattle.gen1_outcomes.specs.declared.log.Entry.{Entry}
 use Rattle.gen1_outcomes.specs.declared.log.Entry.TheVariants.{Draw, Found, Missed}
 use Rattle.gen1_outcomes.specs.Logs.{Agrees, AllFit, Fits, place_after, place_at, place_past, IsOrderOf}
 use Rattle.std.proofs.lemmas.Bool.Decides.{nat_tests}
-use Rattle.gen1_machine.specs.declared.choice.Choice.{Choice}
+use Rattle.gen1_machine.specs.declared.side.Choice.{Choice}
 use Rattle.gen1_machine.specs.declared.terms.Request.{Request}
 use Rattle.gen1_machine.specs.Ruling.{ruling_of}
 use Rattle.gen1_machine.specs.State.{Field, State, Terms}
@@ -18,7 +18,7 @@ use Rattle.gen1_machine.specs.declared.side.Side.{Side}
 use Rattle.gen1_machine.specs.Turn.{Acts, Suffers, end_turn}
 use Rattle.gen1_machine.proofs.TreeWalk.{close_update-tree, do_parts-tree, end_turn-tree, residual-tree, ruling-tree}
 use Rattle.gen1_layout.specs.Parts.{Parts}
-use Rattle.gen1_turn.specs.TurnParts.{suffering}
+use Rattle.gen1_turn.specs.TwoParts.{suffering}
 use Rattle.gen1_turn.proofs.TwoParts.{from_roll-tree}
 use Rattle.gen1_engine.proofs.Making.{plays_turn}
 use Rattle.gen1_outcomes.specs.declared.beginning.Left.{Left}
@@ -27,13 +27,13 @@ use Rattle.gen1_outcomes.specs.declared.middles.Middle.{Middle}
 use Rattle.gen1_outcomes.specs.declared.nodes.Nodes.{Nodes}
 use Rattle.gen1_outcomes.specs.Beginning.{IsReadyFor, asks_for_move, have_two_actions, is_move, left_of, rest_of, second_action}
 use Rattle.gen1_outcomes.specs.Complete.{FollowsFrom, OffersTwo}
-use Rattle.gen1_outcomes.specs.Following.{AreOf, Follows, Walk}
+use Rattle.gen1_outcomes.specs.Plain.{AreOf, Follows, Walk}
 use Rattle.gen1_outcomes.specs.Listing.{untold}
 use Rattle.gen1_outcomes.specs.Middles.{Arrives, IsAt, LeadsFrom, Reaches}
 use Rattle.std.proofs.lemmas.Bool.{false≢true}
-use Rattle.gen1_rolls.specs.declared.look.ByteTest.{ByteTest}
-use Rattle.gen1_rolls.specs.declared.look.Look.TheVariants.{Remainder}
-use Rattle.gen1_machine.specs.declared.choice.Choice.TheVariants as choices
+use Rattle.gen1_rolls.specs.declared.rolls.ByteTest.{ByteTest}
+use Rattle.gen1_rolls.specs.declared.rolls.Look.TheVariants.{Remainder}
+use Rattle.gen1_machine.specs.declared.side.Choice.TheVariants as choices
 use Rattle.gen1_machine.specs.declared.terms.Request.TheVariants as requests
 use Rattle.gen1_outcomes.specs.declared.beginning.Left.TheVariants as lefts
 

@@ -5,7 +5,7 @@ use Rattle.std.proofs.lemmas.Nat.{mul-le}
 use Rattle.std.proofs.lemmas.Slice.Eq.{bytes_eq-Decides}
 use Rattle.gen1_rolls.specs.Streams.{IsStream, Stream}
 use Rattle.gen1_rolls.specs.Steady.{stream_of}
-use Rattle.gen1_machine.specs.declared.choice.Choice.{Choice}
+use Rattle.gen1_machine.specs.declared.side.Choice.{Choice}
 use Rattle.gen1_machine.specs.Laws.{IsShare, Tree, drawing_from, leads_to}
 use Rattle.gen1_machine.specs.Progress.{Progress}
 use Rattle.gen1_machine.specs.Ruling.{ruling_of}
@@ -18,26 +18,24 @@ use Rattle.gen1_layout.specs.Shows.{blocks_of, setting_of, state_in}
 use Rattle.gen1_engine.proofs.Making.{both_move, plays_turn}
 use Rattle.gen1_outcomes.specs.declared.beginning.Left.{Left}
 use Rattle.gen1_outcomes.specs.declared.beginning.Left.TheVariants as lefts
-use Rattle.gen1_outcomes.specs.declared.fault.OutcomesFault.{OutcomesFault}
+use Rattle.gen1_outcomes.specs.declared.successor.OutcomesFault.{OutcomesFault}
 use Rattle.gen1_outcomes.specs.declared.merging.Tally.{Tally}
 use Rattle.gen1_outcomes.specs.declared.middles.Middle.{Middle}
 use Rattle.gen1_outcomes.specs.declared.middles.Middles.{Middles}
 use Rattle.gen1_outcomes.specs.declared.nodes.Chance.{Chance}
 use Rattle.gen1_outcomes.specs.declared.nodes.Nodes.{Nodes}
-use Rattle.gen1_outcomes.specs.declared.options.OutcomeOptions.{OutcomeOptions}
+use Rattle.gen1_outcomes.specs.declared.successor.OutcomeOptions.{OutcomeOptions}
 use Rattle.gen1_outcomes.specs.declared.outcomes.Outcomes.{Outcomes}
-use Rattle.gen1_outcomes.specs.declared.script.Script.{Script}
+use Rattle.gen1_outcomes.specs.declared.explorer.Script.{Script}
 use Rattle.gen1_outcomes.specs.declared.successor.Successor.{Successor}
 use Rattle.gen1_outcomes.specs.Beginning.{left_of}
 use Rattle.gen1_outcomes.specs.Complete.{FollowsFrom, GoesBy, IsExact, ListsFrom, Offers, OffersTwo, place_before}
-use Rattle.gen1_outcomes.specs.Following.{Walk, turn_on}
+use Rattle.gen1_outcomes.specs.Plain.{Walk, turn_on}
 use Rattle.gen1_outcomes.specs.Listing.{battle_at}
 use Rattle.gen1_outcomes.specs.Logs.{Agrees, AllFit, IsLogged, place_at}
-use Rattle.gen1_outcomes.specs.Merging.{AreDistinct}
-use Rattle.gen1_outcomes.specs.Middles.{Arrives, Gets, IsAdded, IsAt, IsPut, Joins, Reaches}
+use Rattle.gen1_outcomes.specs.Middles.{AreDistinct, Arrives, Gets, IsAdded, IsAt, IsPut, Joins, Reaches}
 use Rattle.gen1_outcomes.specs.Nodes.{AllDone, IsChance, LeadsOn, asked_at, script_of, scripted}
-use Rattle.gen1_outcomes.specs.Shares.{weight_at}
-use Rattle.gen1_outcomes.specs.Weights.{AddsPart, AddsPending, AddsUpdate, AreAlikeFrom, AreEqual, ArePending, Fraction, HasPart, HasProbabilities, HasRest, IsAlikeFrom, IsPartOf, IsTestOf, IsTreeFrom, Keeps, KeepsPending, are_of, nothing, of_chance, plus, share_of, sum_of_parts, times, unit}
+use Rattle.gen1_outcomes.specs.Weights.{weight_at, AddsPart, AddsPending, AddsUpdate, AreAlikeFrom, AreEqual, ArePending, Fraction, HasPart, HasProbabilities, HasRest, IsAlikeFrom, IsPartOf, IsTestOf, IsTreeFrom, Keeps, KeepsPending, are_of, nothing, of_chance, plus, share_of, sum_of_parts, times, unit}
 use Rattle.gen1_outcomes.proofs.Complete.{AreKnown, ListsFromEach, all_noted, some_middle}
 use Rattle.gen1_outcomes.proofs.Fractions.{equal-refl, equal-sym, equal-trans, nothing-plus, plus-assoc, plus-comm, plus-equal, plus-nothing, plus-positive, plus-times, sum-plus, times-equal, times-positive, unit-times}
 use Rattle.gen1_outcomes.proofs.Lists.{same_or}

@@ -4,13 +4,13 @@ use Rattle.std.specs.Prelude.{slice_index}
 use Rattle.std.proofs.Math.Nat.{add-mod-mod, mod-eq_of_lt, mod-lt, mod_self}
 use Rattle.std.proofs.lemmas.List.{get_or-take, get_or_default, length-set, length-take-le}
 use Rattle.gen1_layout.specs.Parts.{Parts, joined}
-use Rattle.gen1_outcomes.specs.declared.fault.OutcomesFault.{OutcomesFault}
+use Rattle.gen1_outcomes.specs.declared.successor.OutcomesFault.{OutcomesFault}
 use Rattle.gen1_outcomes.specs.declared.merging.Tally.{Tally}
 use Rattle.gen1_outcomes.specs.declared.outcomes.Outcomes.{Outcomes}
 use Rattle.gen1_outcomes.specs.declared.successor.Successor.{Successor}
 use Rattle.gen1_outcomes.specs.Listing.{AreThose, battle_at}
 use Rattle.gen1_outcomes.proofs.Lists.{AreTaken}
-use Rattle.gen1_outcomes.specs.Merging.{AreDistinct, HasNumber, IsFreeFor, IsIndexed, StayIndexed, hash_of, slot_of}
+use Rattle.gen1_outcomes.specs.Middles.{AreDistinct, HasNumber, IsFreeFor, IsIndexed, StayIndexed, hash_of, slot_of}
 
 same_or : (m n : ℕ) → (m ≡ n) ⊎ (m ≢ n)
 same_or m n = grind arith

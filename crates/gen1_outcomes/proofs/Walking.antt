@@ -1,5 +1,5 @@
--- How one way leads to the next, with no bytes for draws lost between them.
-use Rattle.std.proofs.Common.{◌≡◌, ◌≢◌, ℕ, Bool, Some, false, not, true, ◌⊎◌, inl, inr, refl, ◌+◌, ◌*◌, ◌/◌, ◌%◌, ◌-◌, ◌<◌, ◌≤◌, ◌^◌, zero, suc, max, List, [], cond, length, lit<, get_or, get_or-set_other, get_or-set_same, set, ap, subst, sym, ◌∙◌, arith}
+-- How one way leads to the next, with no bytes for draws lost between them, and how many ways there are.
+use Rattle.std.proofs.Common.{◌≡◌, ◌≢◌, ℕ, Bool, Some, false, not, true, ◌⊎◌, inl, inr, refl, ◌+◌, ◌*◌, ◌/◌, ◌%◌, ◌-◌, ◌<◌, ◌≤◌, ◌^◌, zero, suc, max, List, [], cond, length, lit<, get_or, get_or-set_other, get_or-set_same, set, ap, subst, sym, ◌∙◌, arith, ◌∷◌}
 use Rattle.std.proofs.Math.Nat.{div-div-eq-div-mul, mul_assoc, mul_comm, pow-succ'}
 use Rattle.std.proofs.lemmas.Nat.{le_or_r, or_lt}
 use Rattle.std.proofs.lemmas.Nat.Bits.{bit_at-suc, bit_at-trailing_zeros, bit_at_lowest, bit_at_or}
@@ -7,7 +7,7 @@ use Rattle.std.specs.Int.{bit_at, trailing_zeros, w16}
 use Rattle.std.specs.Int.RustNames.{bit_or}
 use Rattle.gen1_outcomes.proofs.Fractions.{moved}
 use Rattle.std.proofs.lemmas.List.{get_or_default, length-set}
-use Rattle.gen1_rolls.specs.declared.look.Look.TheVariants.{Below}
+use Rattle.gen1_rolls.specs.declared.rolls.Look.TheVariants.{Below}
 use Rattle.gen1_layout.specs.Parts.{Parts}
 use Rattle.gen1_layout.specs.Shows.{Telling}
 use Rattle.gen1_outcomes.specs.declared.byte_set.ByteSet.{ByteSet}
@@ -17,8 +17,14 @@ use Rattle.gen1_outcomes.specs.declared.nodes.Nodes.{Nodes}
 use Rattle.gen1_outcomes.specs.declared.plain.PlainWalk.{PlainWalk}
 use Rattle.gen1_outcomes.specs.Nodes.{AllDone, AreBytes, AreLeft, AreOn, AreToCome, Covers, GoesOn, IsChance, IsDone, LeadsOn}
 use Rattle.gen1_outcomes.specs.Bytes.{has, size, alike_in}
-use Rattle.gen1_outcomes.specs.Following.{PlaysNext, PlaysWay, Walk}
-use Rattle.gen1_outcomes.specs.Plain.{ArePlain, EndsWith, GoesOnTo}
+use Rattle.gen1_outcomes.specs.Plain.{PlaysNext, PlaysWay, Walk, ArePlain, EndsWith, GoesOnTo}
+use seplogic.Ra.Ura.{Ura}
+use mir.Val.{Val, vstruct, vnil}
+use types.Logic.{Logic}
+use types.Kit.{Goal, Step, step, Item, ‵, ◌$◌, fjoin, fpack, feq_i}
+use denote.RattleType.{RattleType, Valss}
+use denote.Steps.{nothing}
+use denote.Struct.Struct.{Struct, within}
 
 pub leads_on : (old new : Nodes) (list : List Node) (len : ℕ) (node : Node) → new.list ≡ set list (len - 1) node → new.len ≡ len → new.at ≡ 0 → new.asked ≡ old.asked → new.options ≡ old.options
     → new.before ≡ old.before → list ≡ old.list → len ≤ old.len → 0 < len → len ≤ length list → ((none : Node) → GoesOn (get_or list (len - 1) none) node)
@@ -243,3 +249,16 @@ led old new bytes small leads left =
           let none = leads.after left.place d more left.within (bytes left.place) (small left.place) in
           absurd (omega (arith, one, none))
     ]
+
+-- A step that the walks of `src/log.rt` share. Assumes `Logic`.
+
+abbrev pub none : Val
+none = vstruct vnil
+
+abbrev pub fieldless : RattleType
+fieldless = Struct (record { name = []; args = []; types = []; fields = [] })
+
+pub none_made : {M : Type 1} {𝓤 : Ura M} {𝓛 : Logic 𝓤} {K : Type 0} {Γ : List (Item 𝓤)} {G : Goal 𝓤 𝓛.H} → K → Step K 𝓛 (‵ (fieldless.own_val tt (none ∷ [])) ∷ Γ) G Γ G
+none_made t = step (λ s.
+    nothing t $ feq_i t (List Val) (none ∷ []) (none ∷ []) refl $ fjoin t $
+    fpack t (Valss []) (within (record { name = []; args = []; types = []; fields = [] }) tt (none ∷ [])) tt $ s)

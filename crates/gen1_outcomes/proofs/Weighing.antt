@@ -3,7 +3,7 @@
 -- The levels of the draws are parts of a whole. The fraction is what all bytes that are finished have of it.
 use Rattle.std.proofs.Common.{◌≡◌, ◌⊎◌, inl, inr, ℕ, zero, suc, ◌*◌, ◌+◌, ◌-◌, ◌<◌, ◌≤◌, ◌∷◌, Bool, IsTrue, true, false, List, [], ap, ap₂, arith, cond, get_or, length, refl, subst, sym, ◌∙◌}
 use Rattle.gen1_rolls.specs.Streams.{passes, IsStream, Stream}
-use Rattle.gen1_rolls.specs.declared.look.Look.{Look}
+use Rattle.gen1_rolls.specs.declared.rolls.Look.{Look}
 use Rattle.gen1_machine.specs.Laws.{count_of, leads_to, IsShare, Tree}
 use Rattle.gen1_machine.specs.State.{Field}
 use Rattle.gen1_machine.proofs.Shares.{all-count, counted}
@@ -15,8 +15,8 @@ use Rattle.gen1_outcomes.specs.declared.nodes.Asked.TheVariants.{First, Next, Un
 use Rattle.gen1_outcomes.specs.declared.nodes.Chance.{Chance}
 use Rattle.gen1_outcomes.specs.declared.nodes.Node.{Node}
 use Rattle.gen1_outcomes.specs.declared.nodes.Nodes.{Nodes}
-use Rattle.gen1_outcomes.specs.declared.options.OutcomeOptions.{OutcomeOptions}
-use Rattle.gen1_outcomes.specs.declared.script.Script.{Script}
+use Rattle.gen1_outcomes.specs.declared.successor.OutcomeOptions.{OutcomeOptions}
+use Rattle.gen1_outcomes.specs.declared.explorer.Script.{Script}
 use Rattle.gen1_outcomes.specs.Nodes.{Adds, AllDone, GoesOn, IsChance, IsThen, LeadsOn, Notes, Passes, asked_at}
 use Rattle.gen1_outcomes.specs.Bytes.{has, alike_in}
 use Rattle.gen1_outcomes.specs.Complete.{GoesBy, IsExact, place_before}

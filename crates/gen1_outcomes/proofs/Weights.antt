@@ -1,11 +1,11 @@
 -- Weights are probabilities: what adding a battle makes of its part, and what a position adds to a list.
 use Rattle.std.proofs.Common.{◌≡◌, ◌≢◌, ◌⊎◌, inl, inr, ℕ, ◌*◌, ◌+◌, ◌<◌, ◌≤◌, Bool, true, false, List, [], ◌∷◌, Option, None, Some, ap, ap₂, arith, if◌then◌else◌, refl, subst, sym, ◌∙◌}
 use Rattle.std.proofs.lemmas.Bool.{false≢true}
-use Rattle.gen1_rolls.specs.declared.look.Look.{Look}
+use Rattle.gen1_rolls.specs.declared.rolls.Look.{Look}
 use Rattle.gen1_rolls.specs.Steady.{stream_of}
 use Rattle.gen1_rolls.specs.Streams.{Drawn, IsStream, Link, Stream, byte_at, first, span}
 use Rattle.gen1_rolls.proofs.First.{first-finds}
-use Rattle.gen1_machine.specs.declared.choice.Choice.{Choice}
+use Rattle.gen1_machine.specs.declared.side.Choice.{Choice}
 use Rattle.gen1_machine.specs.declared.side.Side.TheVariants.{One}
 use Rattle.gen1_machine.specs.declared.terms.Outcome.TheVariants.{Ongoing}
 use Rattle.gen1_machine.specs.declared.terms.Request.{Request}
@@ -35,17 +35,15 @@ use Rattle.gen1_outcomes.specs.declared.nodes.Asked.{Asked}
 use Rattle.gen1_outcomes.specs.declared.nodes.Asked.TheVariants.{First, Next}
 use Rattle.gen1_outcomes.specs.declared.nodes.Chance.{Chance}
 use Rattle.gen1_outcomes.specs.declared.nodes.Nodes.{Nodes}
-use Rattle.gen1_outcomes.specs.declared.options.OutcomeOptions.{OutcomeOptions}
+use Rattle.gen1_outcomes.specs.declared.successor.OutcomeOptions.{OutcomeOptions}
 use Rattle.gen1_outcomes.specs.declared.successor.Successor.{Successor}
 use Rattle.gen1_outcomes.specs.Complete.{GoesBy, IsExact, Offers, place_before}
-use Rattle.gen1_outcomes.specs.Following.{Walk, turn_on}
+use Rattle.gen1_outcomes.specs.Plain.{Walk, turn_on}
 use Rattle.gen1_outcomes.specs.Listing.{KeepsFirst, battle_at}
 use Rattle.gen1_outcomes.specs.Logs.{Agrees, AllFit, NotesAll, NotesEntry}
-use Rattle.gen1_outcomes.specs.Merging.{AreDistinct, IsIndexed}
-use Rattle.gen1_outcomes.specs.Middles.{PlaysFrom, PlaysOn}
+use Rattle.gen1_outcomes.specs.Middles.{AreDistinct, IsIndexed, PlaysFrom, PlaysOn}
 use Rattle.gen1_outcomes.specs.Nodes.{AllDone, IsChance, LeadsOn, Notes, Passes, asked_at, script_of, scripted}
-use Rattle.gen1_outcomes.specs.Shares.{Adds, GetsShare, weight_at, weight_before}
-use Rattle.gen1_outcomes.specs.Weights.{AddsPart, AddsUpdate, AreEqual, Fraction, HasPart, IsNoPart, IsTestOf, IsTreeFrom, Tells, are_of, nothing, of_chance, plus, times, unit}
+use Rattle.gen1_outcomes.specs.Weights.{Adds, GetsShare, weight_at, weight_before, AddsPart, AddsUpdate, AreEqual, Fraction, HasPart, IsNoPart, IsTestOf, IsTreeFrom, Tells, are_of, nothing, of_chance, plus, times, unit}
 use Rattle.gen1_outcomes.proofs.Complete.{AreKnown, all_noted}
 use Rattle.gen1_outcomes.proofs.Fractions.{equal-refl, equal-sym, equal-trans, grows-plus, plus-assoc, plus-equal, plus-nothing, same-equal, times-assoc, times-equal, times-nothing, times-plus, times-positive, times-unit, no_parts, plus-positive}
 use Rattle.gen1_outcomes.proofs.Lists.{same_or}

@@ -2,9 +2,9 @@
 use Rattle.std.specs.Prelude.{Bool, [], false, true, ℕ, ◌&&◌, ◌∷◌, ◌≡◌, if◌then◌else◌}
 use Rattle.gen1_rolls.specs.Draws.{Drawing, Ref, Since, Source, StandsIn}
 use Rattle.gen1_rolls.specs.Streams.{IsStream}
-use Rattle.gen1_machine.specs.declared.choice.Choice.{Choice}
-use Rattle.gen1_machine.specs.declared.choice.Choice.TheVariants as choices
-use Rattle.gen1_machine.specs.declared.picks.Pick.{Pick}
+use Rattle.gen1_machine.specs.declared.side.Choice.{Choice}
+use Rattle.gen1_machine.specs.declared.side.Choice.TheVariants as choices
+use Rattle.gen1_machine.specs.declared.side.Pick.{Pick}
 use Rattle.gen1_machine.specs.declared.side.Side.{Side}
 use Rattle.gen1_machine.specs.declared.side.Side.TheVariants.{One, Two}
 use Rattle.gen1_machine.specs.declared.terms.Request.{Request}
@@ -22,9 +22,8 @@ use Rattle.gen1_machine.specs.TurnOrder.{in_order}
 use Rattle.gen1_layout.specs.Parts.{Parts}
 use Rattle.gen1_layout.specs.Shows.{Setting, Stands, Within, setting_of}
 use Rattle.gen1_hits.specs.Planned.{Follows}
-use Rattle.gen1_switching.specs.Updates.{Plays, drawing_on}
-use Rattle.gen1_turn.specs.TurnParts.{suffering}
-use Rattle.gen1_turn.specs.TwoParts.{IsRolling, from_roll}
+use Rattle.gen1_switching.specs.SwitchingIn.{Plays, drawing_on}
+use Rattle.gen1_turn.specs.TwoParts.{suffering, IsRolling, from_roll}
 use Rattle.gen1_turn.specs.declared.action.two_parts.Roll.{Roll}
 use Rattle.gen1_outcomes.specs.declared.beginning.Left.{Left}
 use Rattle.gen1_outcomes.specs.declared.beginning.Left.TheVariants as lefts

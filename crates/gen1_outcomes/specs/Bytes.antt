@@ -3,8 +3,8 @@ use Rattle.std.specs.Prelude.{Bool, ◌%◌, ◌/◌, ◌<◌, ◌≡◌, ℕ, i
 use Rattle.std.specs.Int.{bit_at}
 use Rattle.std.specs.List.{range_with_len, sum_by}
 use Rattle.gen1_outcomes.specs.declared.byte_set.ByteSet.{ByteSet}
-use Rattle.gen1_rolls.specs.declared.look.Look.{Look}
-use Rattle.gen1_rolls.specs.declared.look.Look.TheVariants.{Below, Factor, Remainder, RotatedBelow}
+use Rattle.gen1_rolls.specs.declared.rolls.Look.{Look}
+use Rattle.gen1_rolls.specs.declared.rolls.Look.TheVariants.{Below, Factor, Remainder, RotatedBelow}
 use Rattle.gen1_rolls.specs.Streams.{rotated_right_1, sees}
 use Rattle.gen1_outcomes.specs.declared.alike.Run.{Run}
 

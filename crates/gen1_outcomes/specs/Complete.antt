@@ -1,7 +1,7 @@
 -- Which streams go by the draws of a way, and lists that have a battle for every stream (docs/MECHANICS.md, "Link numbers").
 use Rattle.std.specs.Prelude.{List, None, Option, Some, slice_index_or, suc, true, zero, ℕ, ◌<◌, ◌≡◌, ◌≤◌, ◌⊎◌}
 use Rattle.gen1_rolls.specs.Streams.{passes, IsStream, Stream, byte_at, first}
-use Rattle.gen1_machine.specs.declared.choice.Choice.{Choice}
+use Rattle.gen1_machine.specs.declared.side.Choice.{Choice}
 use Rattle.gen1_machine.specs.Progress.{Progress}
 use Rattle.gen1_machine.specs.Ruling.{ruling_of}
 use Rattle.gen1_machine.specs.State.{State}
@@ -14,10 +14,10 @@ use Rattle.gen1_outcomes.specs.declared.middles.Middles.{Middles}
 use Rattle.gen1_outcomes.specs.declared.nodes.Asked.{Asked}
 use Rattle.gen1_outcomes.specs.declared.nodes.Asked.TheVariants.{First, Next, Unknown}
 use Rattle.gen1_outcomes.specs.declared.nodes.Nodes.{Nodes}
-use Rattle.gen1_outcomes.specs.declared.options.OutcomeOptions.{OutcomeOptions}
+use Rattle.gen1_outcomes.specs.declared.successor.OutcomeOptions.{OutcomeOptions}
 use Rattle.gen1_outcomes.specs.declared.successor.Successor.{Successor}
 use Rattle.gen1_outcomes.specs.Beginning.{have_two_actions, left_of}
-use Rattle.gen1_outcomes.specs.Following.{AreOf, Follows, Walk}
+use Rattle.gen1_outcomes.specs.Plain.{AreOf, Follows, Walk}
 use Rattle.gen1_outcomes.specs.Listing.{KeepsFirst, battle_at, untold}
 use Rattle.gen1_outcomes.specs.Logs.{place_past}
 use Rattle.gen1_outcomes.specs.Middles.{Arrives, IsAt}

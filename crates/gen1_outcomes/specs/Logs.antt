@@ -1,9 +1,9 @@
 -- Logs of draws and searches, the streams that agree with one, and the notes of them (docs/MECHANICS.md, "Link numbers").
 use Rattle.std.specs.Prelude.{IsTrue, List, None, Option, Some, [], ℕ, ◌++◌, ◌+◌, ◌<◌, ◌∷◌, ◌≡◌, ◌⊎◌}
 use Rattle.std.specs.Borrow.{GName}
-use Rattle.gen1_rolls.specs.declared.look.ByteTest.{ByteTest}
-use Rattle.gen1_rolls.specs.declared.look.Look.{Look}
-use Rattle.gen1_rolls.specs.declared.look.Look.TheVariants.{Remainder}
+use Rattle.gen1_rolls.specs.declared.rolls.ByteTest.{ByteTest}
+use Rattle.gen1_rolls.specs.declared.rolls.Look.{Look}
+use Rattle.gen1_rolls.specs.declared.rolls.Look.TheVariants.{Remainder}
 use Rattle.gen1_rolls.specs.Draws.{Drawing}
 use Rattle.gen1_rolls.specs.Streams.{passes, sees, IsStream, Stream, byte_at, first, span}
 use Rattle.gen1_rolls.specs.Steady.{StandsAt, stream_of}
@@ -13,7 +13,7 @@ use Rattle.gen1_outcomes.specs.declared.log.Entry.{Entry}
 use Rattle.gen1_outcomes.specs.declared.log.Entry.TheVariants.{Draw, Found, Missed}
 use Rattle.gen1_outcomes.specs.declared.nodes.Asked.TheVariants.{First, Next}
 use Rattle.gen1_outcomes.specs.declared.nodes.Nodes.{Nodes}
-use Rattle.gen1_outcomes.specs.declared.script.Script.{Script}
+use Rattle.gen1_outcomes.specs.declared.explorer.Script.{Script}
 use Rattle.gen1_outcomes.specs.Nodes.{IsSettled, Marks, NotesNew, Passes, scripted}
 use Rattle.gen1_outcomes.specs.Bytes.{ArePassing, IsAll, IsNone}
 

@@ -1,15 +1,15 @@
 -- The draws of a way, and how one way leads to the next.
 use Rattle.std.specs.Prelude.{Bool, ◌/◌, ◌<◌, ◌≡◌, ℕ, if◌then◌else◌, slice_index, ◌*◌, ◌+◌, ◌-◌, ◌≤◌, ◌^◌, ◌⊎◌, List, length, true, slice_index_or, slice_set, ◌≢◌, nat_lt}
 use Rattle.gen1_outcomes.specs.declared.byte_set.ByteSet.{ByteSet}
-use Rattle.gen1_rolls.specs.declared.look.Look.{Look}
-use Rattle.gen1_rolls.specs.declared.look.Look.TheVariants.{Factor}
+use Rattle.gen1_rolls.specs.declared.rolls.Look.{Look}
+use Rattle.gen1_rolls.specs.declared.rolls.Look.TheVariants.{Factor}
 use Rattle.gen1_outcomes.specs.declared.nodes.Chance.{Chance}
 use Rattle.gen1_outcomes.specs.declared.nodes.Asked.{Asked}
 use Rattle.gen1_outcomes.specs.declared.nodes.Asked.TheVariants.{Unknown}
 use Rattle.gen1_outcomes.specs.declared.nodes.Node.{Node}
 use Rattle.gen1_outcomes.specs.declared.nodes.Nodes.{Nodes}
 use Rattle.gen1_rolls.specs.Steady.{Generator, one_up}
-use Rattle.gen1_outcomes.specs.declared.script.Script.{Script}
+use Rattle.gen1_outcomes.specs.declared.explorer.Script.{Script}
 use Rattle.gen1_outcomes.specs.Bytes.{has, size, alike_in}
 use Rattle.gen1_outcomes.specs.Chances.{IsBelow}
 

@@ -1,28 +1,31 @@
-//! A turn up to its second action, and the rest of it (docs/MECHANICS.md, "Order of a turn").
-
-ghost use Rattle.std.specs.Prelude.{false, true, ◌≡◌};
-ghost use Rattle.gen1_rolls.specs.Draws.{Steps};
-ghost use Rattle.gen1_layout.specs.Words.{Bool, Frame, Progress, Reads, ReadsPacked, Shows};
+//! A turn up to its second action, and the rest of it; an update whose draws come from any generator (docs/MECHANICS.md,
+//! "Order of a turn", "Falls and requests").
+ghost use Rattle.std.specs.Prelude.{[], false, true, ◌≡◌};
+ghost use Rattle.gen1_rolls.specs.Draws.{Steps, StepsTo};
 ghost use Rattle.gen1_machine.specs.Falls.{close};
 ghost use Rattle.gen1_machine.specs.Ruling.{ruling_of};
 ghost use Rattle.gen1_machine.specs.Step.{close_update};
 ghost use Rattle.gen1_machine.specs.Turn.{end_turn, is_cut, of_side};
-ghost use Rattle.gen1_layout.specs.Operations.{DoesAnyway, between};
-ghost use Rattle.gen1_outcomes.specs.Listing.{untold};
+ghost use Rattle.gen1_machine.specs.State.{State};
+ghost use Rattle.gen1_layout.specs.Words.{AddsAtMost, Bool, Frame, HasRoom, Progress, Reads, ReadsPacked, Shows};
+ghost use Rattle.gen1_layout.specs.Operations.{DoesAnyway, between, scene};
+ghost use Rattle.gen1_layout.specs.Shows.{Stands};
 ghost use Rattle.gen1_turn.specs.TwoParts.{RollsDamage};
+ghost use Rattle.gen1_engine.specs.Update.{AreOffered};
+ghost use Rattle.gen1_outcomes.specs.Listing.{PlaysRoll, untold};
 ghost use Rattle.gen1_outcomes.specs.Beginning.{BeginsTurn, EndsUpdate, LeadsTo, asks_for_move, have_two_actions, is_move};
-ghost use Rattle.gen1_outcomes.specs.Exchanged.{PlaysRoll};
+ghost use Rattle.gen1_outcomes.specs.Plain.{Plays};
 
-use gen1_events::Silent;
+use gen1_events::{EventSink, Silent};
 use gen1_hits::Known;
 use gen1_layout::Packed;
 use gen1_machine::{Choice, Pick, Request, Side};
 use gen1_rolls::Rolls;
 use gen1_status::pick;
-use gen1_switching::{close, close_uncut};
+use gen1_switching::{close, close_uncut, replace, start};
 use gen1_turn::{
     Acted, Roll, act_after_test, act_and_suffer_as, act_to_roll, end_flinch, end_turn, first_side,
-    roll_damage_of, set_picked, test_hit,
+    roll_damage_of, set_picked, test_hit, turn,
 };
 
 /// What the rest of an update from its second action on depends on besides the bytes of the battle and its draws.
@@ -230,4 +233,37 @@ fn close_turn(battle: &mut Packed, falls: bool, actor: Side)
     }
     end_turn(battle);
     close_uncut(battle, &mut Silent);
+}
+
+/// Plays one update by two offered choices, without testing that they are.
+///
+/// Draws come only from `random`, which is returned as they leave it. The index and the numbers in the bytes stay as
+/// they are. The events go to a sink that is still empty. If a choice is not offered, the bytes may be anything
+/// afterwards.
+pub fn play<R: Rolls, S: EventSink>(
+    battle: &mut Packed,
+    one: Choice,
+    two: Choice,
+    random: R,
+    events: &mut S,
+) -> R
+    requires empty { S.tells events.old [] }
+    requires room { HasRoom S.room 51 events.old }
+    ensures played { (s : State) → Stands battle.old s → AreOffered s one two
+        → Plays R.drawing random result s one two (scene S.tells battle events) }
+    ensures room { AddsAtMost S.room 51 events.old events.new }
+    ensures steps { StepsTo R.drawing random result }
+{
+    match battle.request(Side::One) {
+        Request::Move => turn(battle, one, two, random, events),
+        _ => {
+            if battle.turn() == 0 {
+                start(battle, events);
+                random
+            } else {
+                replace(battle, one, two, events);
+                random
+            }
+        }
+    }
 }

@@ -4,15 +4,13 @@ ghost use Rattle.std.specs.Int.{IsGcd};
 ghost use Rattle.gen1_layout.specs.Parts.{joined};
 ghost use Rattle.gen1_outcomes.specs.Chances.{IsBelow};
 ghost use Rattle.gen1_outcomes.specs.Listing.{AreThose, AreThoseOr, KeepsFirst};
-ghost use Rattle.gen1_outcomes.specs.declared.fault.OutcomesFault.TheVariants.{Size};
-ghost use Rattle.gen1_outcomes.specs.Merging.{IsIndexed, IsNew, IsPlace, IsShort, LeavesOut, StayIndexed, hash_of, mixed, with_block, with_member, with_side, word_at};
-ghost use Rattle.gen1_outcomes.specs.Shares.{Adds, IsLeft, KeepsShares, TakesEach, weight_at};
+ghost use Rattle.gen1_outcomes.specs.declared.successor.OutcomesFault.TheVariants.{Size};
+ghost use Rattle.gen1_outcomes.specs.Middles.{IsIndexed, IsNew, IsPlace, IsShort, LeavesOut, StayIndexed, hash_of, mixed, with_block, with_member, with_side, word_at};
+ghost use Rattle.gen1_outcomes.specs.Weights.{Adds, IsLeft, KeepsShares, TakesEach, weight_at};
 ghost use Rattle.gen1_outcomes.specs.declared.successor.Successor.{Successor};
 
-use crate::chances::is_below;
-use crate::fault::OutcomesFault;
 use crate::nodes::Chance;
-use crate::successor::Successor;
+use crate::successor::{OutcomesFault, Successor, is_below};
 use crate::ways::copy_of;
 use gen1_layout::Packed;
 

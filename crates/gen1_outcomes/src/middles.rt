@@ -1,14 +1,13 @@
 //! Positions between the two actions of a turn. Positions that agree are merged (docs/MECHANICS.md, "Link numbers").
 ghost use Rattle.std.specs.Prelude.{IfErr, IfNone, IfOk, IfSome, IsFalse, IsOkUnless, IsTrue, None, OnErr, OnOk, false, slice_index, slice_index_or, ℕ, ◌+◌, ◌-◌, ◌<◌, ◌≡◌, ◌≢◌, ◌≤◌, ◌⊎◌};
 ghost use Rattle.gen1_layout.specs.Parts.{joined, parts_of};
-ghost use Rattle.gen1_outcomes.specs.declared.fault.OutcomesFault.TheVariants.{Size};
+ghost use Rattle.gen1_outcomes.specs.declared.successor.OutcomesFault.TheVariants.{Size};
 
 use crate::beginning::{Left, Rest};
-use crate::chances::plus;
-use crate::fault::OutcomesFault;
+use crate::explorer::DEPTH;
 use crate::merging::hash;
 use crate::nodes::{Chance, Nodes};
-use crate::script::DEPTH;
+use crate::successor::{OutcomesFault, plus};
 use gen1_layout::Packed;
 
 /// How many positions are kept at once.

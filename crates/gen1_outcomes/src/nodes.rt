@@ -1,14 +1,13 @@
 //! The draws of a way, each with the bytes that are still to be tried (docs/MECHANICS.md, "Link numbers").
 ghost use Rattle.std.specs.Prelude.{IfNone, IfSome, IsFalse, IsTrue, false, nat_le, slice_index, slice_index_or, true, ℕ, ◌*◌, ◌+◌, ◌<◌, ◌≡◌, ◌≤◌, ◌⊎◌, if◌then◌else◌};
-ghost use Rattle.gen1_rolls.specs.declared.look.Look.TheVariants.{Below};
+ghost use Rattle.gen1_rolls.specs.declared.rolls.Look.TheVariants.{Below};
 ghost use Rattle.gen1_rolls.specs.Streams.{alike, rotated_right_1};
 ghost use Rattle.gen1_outcomes.specs.Bytes.{has, size, alike_in, middle_factor};
 
 use crate::alike::alike_to;
 use crate::byte_set::ByteSet;
-use crate::chances::is_below;
-use crate::options::OutcomeOptions;
-use crate::script::DEPTH;
+use crate::explorer::DEPTH;
+use crate::successor::{OutcomeOptions, is_below};
 use gen1_rolls::{ByteTest, Look};
 
 /// A probability: `num` of `whole`.

@@ -1,23 +1,20 @@
 //! The ways of an update as a plain struct that its caller keeps, as callers of the C library do (docs/MECHANICS.md, "Link numbers").
 //! The calls take any bytes. [`Ways`](crate::Ways) is for callers that want its type to guarantee them.
 ghost use Rattle.std.specs.Prelude.{IfNone, IfOk, IfSome, IsFalse, IsTrue, None, Ok, OnErr, Some, [], replicate, slice_index, ◌*◌, ◌+◌, ◌≡◌, ◌≢◌, ◌≤◌, ◌⊎◌};
-ghost use Rattle.gen1_rolls.specs.declared.look.Look.TheVariants.{Factor};
-ghost use Rattle.gen1_machine.specs.declared.choice.Choice.{Choice};
+ghost use Rattle.gen1_rolls.specs.declared.rolls.Look.TheVariants.{Factor};
+ghost use Rattle.gen1_machine.specs.declared.side.Choice.{Choice};
 ghost use Rattle.gen1_machine.specs.State.{State};
 ghost use Rattle.gen1_layout.specs.Shows.{Stands};
 ghost use Rattle.gen1_layout.specs.Words.{HasRoom};
 ghost use Rattle.gen1_engine.specs.Replay.{choices_at};
 ghost use Rattle.gen1_engine.specs.Update.{AreOffered};
-ghost use Rattle.gen1_outcomes.specs.Following.{CanFollow};
-ghost use Rattle.gen1_outcomes.specs.Plain.{ArePlain, HasDraws, IsDraw, IsPlain, IsUnderway, IsWay, KeepsUnused, KeepsUpdate, PlaysPlain, look_at, number_of, walk_before};
+ghost use Rattle.gen1_outcomes.specs.Plain.{CanFollow, ArePlain, HasDraws, IsDraw, IsPlain, IsUnderway, IsWay, KeepsUnused, KeepsUpdate, PlaysPlain, look_at, number_of, walk_before};
 
+use crate::beginning::play;
 use crate::byte_set::ByteSet;
-use crate::explorer::{Explorer, Noted};
-use crate::fault::OutcomesFault;
+use crate::explorer::{DEPTH, Explorer, Noted};
 use crate::nodes::{Chance, Node, Nodes};
-use crate::options::OutcomeOptions;
-use crate::playing::play;
-use crate::script::DEPTH;
+use crate::successor::{OutcomeOptions, OutcomesFault};
 use crate::ways::copy_of;
 use gen1_events::EventSink;
 use gen1_layout::Packed;

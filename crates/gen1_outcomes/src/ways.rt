@@ -5,18 +5,16 @@ ghost use Rattle.gen1_layout.specs.Shows.{Stands};
 ghost use Rattle.gen1_layout.specs.Words.{HasRoom, Reads, ReadsPacked};
 ghost use Rattle.gen1_engine.specs.Update.{AreOffered, Tests};
 ghost use Rattle.gen1_outcomes.specs.Beginning.{have_two_actions};
-ghost use Rattle.gen1_outcomes.specs.declared.fault.OutcomesFault.TheVariants.{Size};
-ghost use Rattle.gen1_outcomes.specs.Following.{CanFollow, IsBegun, PlaysNext};
+ghost use Rattle.gen1_outcomes.specs.declared.successor.OutcomesFault.TheVariants.{Size};
+ghost use Rattle.gen1_outcomes.specs.Plain.{CanFollow, IsBegun, PlaysNext};
 ghost use Rattle.gen1_outcomes.specs.Nodes.{IsChance, IsTooLarge};
 ghost use Rattle.gen1_outcomes.specs.Middles.{IsElsewhere, IsTooLong, PlaysOn, Reaches, ReachesFrom};
 
-use crate::beginning::{Left, begin, end_roll, end_second, have_two_actions, lead};
+use crate::beginning::{Left, begin, end_roll, end_second, have_two_actions, lead, play};
 use crate::explorer::{Explorer, Noted};
-use crate::fault::OutcomesFault;
 use crate::middles::Middle;
 use crate::nodes::{Chance, Nodes};
-use crate::options::OutcomeOptions;
-use crate::playing::play;
+use crate::successor::{OutcomeOptions, OutcomesFault};
 use gen1_engine::Refusal;
 use gen1_engine::packed::update_silent;
 use gen1_events::{EventSink, Silent};
@@ -39,7 +37,7 @@ pub struct Ways {
 }
 
 impl Model for Ways {
-    ghost use Rattle.gen1_outcomes.specs.Following.{Walk};
+    ghost use Rattle.gen1_outcomes.specs.Plain.{Walk};
 
     ghost Value = { Walk };
 

@@ -10,8 +10,8 @@ use Rattle.gen1_machine.specs.declared.event.Volatile.TheVariants as volatiles
 use Rattle.gen1_machine.specs.declared.event.Event.{Event}
 use Rattle.gen1_machine.specs.declared.event.Event.TheVariants as events
 use Rattle.gen1_machine.specs.Health.{Health}
-use Rattle.gen1_machine.specs.declared.health.Kind.TheVariants as kinds
-use Rattle.gen1_machine.specs.declared.picks.UsedMove.{UsedMove}
+use Rattle.gen1_machine.specs.declared.event.Kind.TheVariants as kinds
+use Rattle.gen1_machine.specs.declared.side.UsedMove.{UsedMove}
 use Rattle.gen1_machine.specs.Moves.{toxic, Move}
 use Rattle.gen1_machine.specs.Rules.{bit_of}
 use Rattle.gen1_machine.specs.Sides.{other}

@@ -14,18 +14,18 @@ use Rattle.gen1_layout.specs.Parts.{Parts}
 use Rattle.gen1_layout.specs.Shows.{Packs, Setting, Stands, Within, setting_of}
 use Rattle.gen1_layout.proofs.Storing.{within_of}
 use Rattle.gen1_player.specs.OwnSide.{own_conditions, own_member, is_present, no_member, shown_bits, own_active, own_side, OwnSide, plain_side}
-use Rattle.gen1_stats.specs.declared.known_move.KnownMove.{KnownMove}
-use Rattle.gen1_stats.specs.declared.status.Status.{Status}
-use Rattle.gen1_stats.specs.declared.status.Status.TheVariants.{Asleep, Burned, Frozen, Healthy, Paralysed, Poisoned}
-use Rattle.gen1_machine.specs.declared.choice.Choice.{Choice}
+use Rattle.gen1_stats.specs.declared.member.KnownMove.{KnownMove}
+use Rattle.gen1_stats.specs.declared.member.Status.{Status}
+use Rattle.gen1_stats.specs.declared.member.Status.TheVariants.{Asleep, Burned, Frozen, Healthy, Paralysed, Poisoned}
+use Rattle.gen1_machine.specs.declared.side.Choice.{Choice}
 use Rattle.gen1_machine.specs.declared.event.Event.{Event}
-use Rattle.gen1_machine.specs.declared.picks.DisabledSlot.{DisabledSlot}
+use Rattle.gen1_machine.specs.declared.side.DisabledSlot.{DisabledSlot}
 use Rattle.gen1_machine.specs.declared.terms.Request.{Request}
 use Rattle.gen1_machine.specs.OfferedChoices.{bars_slot, offered, offered_for, others_living_from, usable_from}
 use Rattle.gen1_machine.specs.Step.{events_of, step, run, run_by}
 use Rattle.gen1_player.specs.Fair.{Fair, Given, HidesTheCounts, HidesTheFoe, Logging, OffersWhatIsShown, Played, begun, given, given_from, if_asleep, if_disabled, if_on, if_storing, offered_from, offered_in, offers, offers_for, own_team, sleeps_or_is_frozen, switches_from, uncounted, uncounted_active, uncounted_conditions, uncounted_member, uncounted_party, usable_slots_from, FairPlayer, all_logs, end_of, told_by}
 use Rattle.std.proofs.lemmas.List.{take_at}
-use Rattle.gen1_events.specs.declared.fault.LogFault.{LogFault}
+use Rattle.gen1_events.specs.declared.reader.LogFault.{LogFault}
 use Rattle.gen1_events.specs.Reader.{Breaks, IsPart, part, Reading, Splits}
 use Rattle.gen1_events.proofs.Readings.{one_split}
 use Rattle.gen1_spectator.proofs.Following.{splits_more}

@@ -8,7 +8,7 @@ use Rattle.std.proofs.Math.Seq.{map-set_same}
 use Rattle.gen1_stats.specs.Members.{Member}
 use Rattle.gen1_machine.specs.declared.side.Side.{Side}
 use Rattle.gen1_machine.specs.declared.side.Side.TheVariants.{One, Two}
-use Rattle.gen1_machine.specs.declared.health.Kind.{Kind}
+use Rattle.gen1_machine.specs.declared.event.Kind.{Kind}
 use Rattle.gen1_machine.specs.declared.event.CantReason.{CantReason}
 use Rattle.gen1_machine.specs.declared.event.DamageSource.{DamageSource}
 use Rattle.gen1_machine.specs.declared.event.Volatile.{Volatile}
@@ -37,7 +37,7 @@ use Rattle.gen1_machine.specs.Ruling.{ruling_of}
 use Rattle.gen1_player.proofs.ToldEffects.{ruling_of-tells}
 use Rattle.gen1_player.proofs.ToldActions.{act-tells, says-any}
 use Rattle.gen1_player.proofs.ToldEnds.{sent-sized, sizes_of, story-runs}
-use Rattle.gen1_machine.specs.declared.health.Kind.TheVariants as kinds
+use Rattle.gen1_machine.specs.declared.event.Kind.TheVariants as kinds
 use Rattle.gen1_machine.specs.declared.event.CantReason.TheVariants as reasons
 use Rattle.gen1_machine.specs.declared.event.DamageSource.TheVariants as sources
 use Rattle.gen1_machine.specs.declared.event.Volatile.TheVariants as volatiles

@@ -1,13 +1,13 @@
 -- Who put the members of a side to sleep, as the log tells it, and the mark of the sleep clause.
 use Rattle.gen1_machine.specs.declared.event.CantReason.{CantReason}
-use Rattle.gen1_stats.specs.declared.status.Status.{Status}
-use Rattle.gen1_stats.specs.declared.status.Status.TheVariants.{Asleep, Healthy}
+use Rattle.gen1_stats.specs.declared.member.Status.{Status}
+use Rattle.gen1_stats.specs.declared.member.Status.TheVariants.{Asleep, Healthy}
 use Rattle.gen1_player.proofs.Stories.{slept}
 use Rattle.gen1_machine.proofs.Watching.{BothOut, IsOut}
 use Rattle.gen1_machine.specs.Sides.{other}
 use Rattle.gen1_machine.specs.State.{Active, Field, Party, changed_active, changed_member, member_at, member_in, party, who_in, with_member, with_status, with_sleep_one_less, one_turn_less_asleep}
 use Rattle.gen1_machine.specs.declared.event.Event.{Event}
-use Rattle.gen1_machine.specs.declared.health.Kind.{Kind}
+use Rattle.gen1_machine.specs.declared.event.Kind.{Kind}
 use Rattle.gen1_machine.specs.declared.side.Side.{Side}
 use Rattle.gen1_machine.specs.declared.side.Side.TheVariants.{One, Two}
 use Rattle.gen1_player.proofs.Facts.{Noise, Restful, SleepsOn, is_sleep, is_doze}
@@ -24,7 +24,7 @@ use Rattle.std.proofs.lemmas.Bool.Decides.{eqb_tells}
 use Rattle.std.proofs.lemmas.List.{get_or-set_other, map-set, set_past}
 use Rattle.gen1_machine.specs.declared.event.Event.TheVariants as events
 use Rattle.gen1_machine.specs.declared.event.CantReason.TheVariants as reasons
-use Rattle.gen1_machine.specs.declared.health.Kind.TheVariants as kinds
+use Rattle.gen1_machine.specs.declared.event.Kind.TheVariants as kinds
 
 -- Who put members to sleep
 

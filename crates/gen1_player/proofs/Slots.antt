@@ -15,8 +15,8 @@ use Rattle.gen1_machine.specs.declared.event.Event.TheVariants as events
 use Rattle.gen1_machine.specs.declared.side.Side.{Side}
 use Rattle.gen1_machine.specs.Numbers.{side_number}
 use Rattle.gen1_events.specs.Fields.{IsEvent}
-use Rattle.gen1_player.specs.declared.hp_form.HpForm.{HpForm}
-use Rattle.gen1_player.specs.declared.hp_form.HpForm.TheVariants.{Bar, Exact, Hundredths}
+use Rattle.gen1_player.specs.declared.teller.HpForm.{HpForm}
+use Rattle.gen1_player.specs.declared.teller.HpForm.TheVariants.{Bar, Exact, Hundredths}
 use Rattle.gen1_player.specs.declared.teller.Teller.{Teller}
 use Rattle.gen1_player.specs.Telling.{form_number, appears, is_own, is_place, meets, meets_all, slot_of, IsInSlot, IsTeller}
 

@@ -1,13 +1,13 @@
 -- Uses and PP through a turn, and through any run.
 use Rattle.std.proofs.Common.{[], ap, arith, false, flat_map, get_or, if◌then◌else◌, inl, inr, length, map, nat_le, refl, replicate, subst, suc, sym, true, zero, ◌*◌, ◌++◌, ◌+◌, ◌-◌, ◌<◌, ◌==◌, ◌∙◌, ◌∷◌, ◌≡◌, ◌≢◌, ◌≤◌, ◌⊎◌, All, AllPairs, Bool, List, ℕ}
 use Rattle.gen1_rolls.specs.Streams.{byte_at, IsStream, Link}
-use Rattle.gen1_stats.specs.declared.known_move.KnownMove.{KnownMove}
+use Rattle.gen1_stats.specs.declared.member.KnownMove.{KnownMove}
 use Rattle.gen1_machine.specs.declared.side.Side.{Side}
 use Rattle.gen1_machine.specs.declared.side.Side.TheVariants.{One, Two}
-use Rattle.gen1_machine.specs.declared.choice.Choice.{Choice}
-use Rattle.gen1_machine.specs.declared.choice.Choice.TheVariants as choices
+use Rattle.gen1_machine.specs.declared.side.Choice.{Choice}
+use Rattle.gen1_machine.specs.declared.side.Choice.TheVariants as choices
 use Rattle.gen1_machine.specs.declared.event.Event.{Event}
-use Rattle.gen1_machine.specs.declared.picks.Pick.{Pick}
+use Rattle.gen1_machine.specs.declared.side.Pick.{Pick}
 use Rattle.gen1_machine.specs.Picks.{pick_in}
 use Rattle.gen1_machine.specs.Sides.{other}
 use Rattle.gen1_machine.specs.Conditions.{without_flinch}

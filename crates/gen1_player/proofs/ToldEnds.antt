@@ -1,14 +1,14 @@
 -- A story stays true through the end of an update, through a whole update, and through a run of a battle.
 use Rattle.gen1_machine.specs.Action.{act}
 use Rattle.std.proofs.Common.{ap, [], Bool, List, arith, false, length, refl, subst, sym, true, true≢false, ℕ, ◌++◌, ◌∷◌, ◌≡◌, ◌≤◌, ◌||◌, ◌∙◌, flat_map, if◌then◌else◌, ◌⊎◌, inl, inr}
-use Rattle.gen1_stats.specs.declared.status.Status.{Status}
-use Rattle.gen1_stats.specs.declared.status.Status.TheVariants.{Poisoned, Burned}
+use Rattle.gen1_stats.specs.declared.member.Status.{Status}
+use Rattle.gen1_stats.specs.declared.member.Status.TheVariants.{Poisoned, Burned}
 use Rattle.gen1_machine.specs.declared.side.Side.{Side}
 use Rattle.gen1_machine.specs.declared.side.Side.TheVariants.{One, Two}
 use Rattle.gen1_machine.specs.declared.event.Event.{Event}
 use Rattle.gen1_machine.specs.declared.event.DamageSource.{DamageSource}
-use Rattle.gen1_machine.specs.declared.picks.Pick.{Pick}
-use Rattle.gen1_machine.specs.declared.choice.Choice.{Choice}
+use Rattle.gen1_machine.specs.declared.side.Pick.{Pick}
+use Rattle.gen1_machine.specs.declared.side.Choice.{Choice}
 use Rattle.gen1_machine.specs.Sides.{other}
 use Rattle.gen1_machine.specs.State.{changed_active, changed_conditions, is_over, member_at, party, Field, who_in, changed_member, with_outcome, with_requests, with_next_turn, fallen, Party, first_state, request_of, underway_in, State, Terms}
 use Rattle.gen1_machine.specs.Progress.{given, note, on_active, on_conditions, on_field, unless_stopped, ◌▸◌, Phase, has_fallen, Progress, told}
@@ -32,7 +32,7 @@ use Rattle.gen1_stats.specs.Members.{IsTeam, Member}
 use Rattle.gen1_machine.proofs.Fitting.{among-append, offered-moves, offered-place}
 use Rattle.gen1_machine.proofs.Runs.{terms_stay}
 use Rattle.gen1_machine.specs.declared.event.DamageSource.TheVariants as sources
-use Rattle.gen1_machine.specs.declared.choice.Choice.TheVariants as choices
+use Rattle.gen1_machine.specs.declared.side.Choice.TheVariants as choices
 use Rattle.gen1_machine.specs.declared.terms.Outcome.TheVariants as outcomes
 use Rattle.gen1_machine.specs.declared.terms.Request.TheVariants as requests
 use Rattle.gen1_machine.specs.declared.event.Event.TheVariants as events

@@ -9,8 +9,8 @@ use Rattle.gen1_machine.specs.declared.side.Side.TheVariants.{One, Two}
 use Rattle.gen1_machine.specs.declared.event.Event.{Event}
 use Rattle.gen1_machine.specs.declared.event.Volatile.{Volatile}
 use Rattle.gen1_machine.specs.declared.event.Event.TheVariants as events
-use Rattle.gen1_machine.specs.declared.health.Kind.{Kind}
-use Rattle.gen1_machine.specs.declared.health.Who.{Who}
+use Rattle.gen1_machine.specs.declared.event.Kind.{Kind}
+use Rattle.gen1_machine.specs.declared.event.Who.{Who}
 use Rattle.gen1_machine.specs.Health.{Health}
 use Rattle.gen1_machine.specs.LogBytes.{kind_or_0}
 use Rattle.gen1_machine.specs.Numbers.{side_number}
@@ -20,8 +20,8 @@ use Rattle.gen1_events.proofs.Readings.{one_split, reading_splits}
 use Rattle.gen1_player.specs.declared.public.Public.{Public}
 use Rattle.gen1_player.specs.declared.public_side.PublicSide.{PublicSide}
 use Rattle.gen1_player.specs.declared.seen.Seen.{Seen}
-use Rattle.gen1_player.specs.declared.hp_form.HpForm.{HpForm}
-use Rattle.gen1_player.specs.declared.hp_form.HpForm.TheVariants.{Bar, Exact, Hundredths}
+use Rattle.gen1_player.specs.declared.teller.HpForm.{HpForm}
+use Rattle.gen1_player.specs.declared.teller.HpForm.TheVariants.{Bar, Exact, Hundredths}
 use Rattle.gen1_player.specs.declared.teller.Teller.{Teller}
 use Rattle.gen1_player.specs.declared.player.Player.{Player}
 use Rattle.gen1_player.specs.Player.{first_known}

@@ -7,8 +7,8 @@ use Rattle.gen1_machine.specs.declared.event.CantReason.TheVariants as reasons
 use Rattle.gen1_machine.specs.declared.event.Volatile.TheVariants as volatiles
 use Rattle.gen1_machine.specs.declared.event.Event.{Event}
 use Rattle.gen1_machine.specs.declared.event.Event.TheVariants as events
-use Rattle.gen1_machine.specs.declared.health.Kind.TheVariants.{Poison, Sleep}
-use Rattle.gen1_machine.specs.declared.health.Who.{Who}
+use Rattle.gen1_machine.specs.declared.event.Kind.TheVariants.{Poison, Sleep}
+use Rattle.gen1_machine.specs.declared.event.Who.{Who}
 use Rattle.gen1_machine.specs.declared.side.Side.TheVariants.{One, Two}
 use Rattle.gen1_machine.specs.Health.{Health}
 use Rattle.gen1_machine.proofs.Computing.{computing}
@@ -21,8 +21,8 @@ use Rattle.gen1_player.specs.Public.{first_public, hears, hears_all, settled, ta
 use Rattle.gen1_player.specs.Telling.{meets, told, told_all}
 use Rattle.gen1_tables.specs.declared.effect.Stat.TheVariants.{Speed}
 use Rattle.gen1_stats.specs.Members.{Member}
-use Rattle.gen1_stats.specs.declared.status.Status.TheVariants.{Asleep, Paralysed}
-use Rattle.gen1_machine.specs.declared.choice.Choice.TheVariants as choices
+use Rattle.gen1_stats.specs.declared.member.Status.TheVariants.{Asleep, Paralysed}
+use Rattle.gen1_machine.specs.declared.side.Choice.TheVariants as choices
 use Rattle.gen1_machine.specs.declared.terms.Outcome.TheVariants as outcomes
 use Rattle.gen1_machine.specs.declared.terms.Request.TheVariants as requests
 use Rattle.gen1_machine.specs.Conditions.{with_trapping}

@@ -1,10 +1,10 @@
 -- What a side is shown of itself after each update (docs/MECHANICS.md, "What a side is shown of itself").
 use Rattle.std.specs.Prelude.{Bool, List, Option, is_some, map, ℕ, All, None, [], false, if◌then◌else◌, length, replicate, slice_index_or, ◌-◌, ◌==◌, ◌≡◌, ◌≤◌, ◌∷◌}
-use Rattle.gen1_tables.specs.declared.element.Element.{Element}
-use Rattle.gen1_stats.specs.declared.known_move.KnownMove.{KnownMove}
+use Rattle.gen1_tables.specs.declared.types.Element.{Element}
+use Rattle.gen1_stats.specs.declared.member.KnownMove.{KnownMove}
 use Rattle.gen1_stats.specs.Members.{Member}
 use Rattle.gen1_machine.specs.declared.side.Side.{Side}
-use Rattle.gen1_machine.specs.declared.health.Kind.{Kind}
+use Rattle.gen1_machine.specs.declared.event.Kind.{Kind}
 use Rattle.gen1_machine.specs.declared.terms.Outcome.{Outcome}
 use Rattle.gen1_machine.specs.declared.terms.Request.{Request}
 use Rattle.gen1_machine.specs.Sides.{other}

@@ -5,8 +5,7 @@
 //! - `seen`: a member that has appeared
 //! - `announced`: the conditions that the log has announced
 //! - `stages`: the stages of the active member
-//! - `hp_form`: [`HpForm`], how a player learns HP
-//! - `teller`: [`Teller`], what one side learns of the events
+//! - `teller`: [`Teller`], what one side learns of the events, and [`HpForm`], how it learns HP
 //! - `own`: [`own_side`], what a side is shown of itself
 //! - `player`: [`Player`], what a player knows
 //! - `laws`: what is shown says nothing of what is hidden
@@ -14,7 +13,6 @@
 #![tactic(auto)]
 
 mod announced;
-mod hp_form;
 mod laws;
 mod own;
 mod player;
@@ -26,7 +24,6 @@ mod teller;
 mod truth;
 
 pub use announced::Announced;
-pub use hp_form::HpForm;
 pub use laws::{
     fair, fair_player, hides_the_counts, hides_the_foe, offers_what_is_shown, tells_hp,
 };
@@ -36,7 +33,7 @@ pub use public::Public;
 pub use public_side::PublicSide;
 pub use seen::{Seen, SeenMove};
 pub use stages::SeenStages;
-pub use teller::Teller;
+pub use teller::{HpForm, Teller};
 pub use truth::{
     actives_agree, conditions_agree, members_agree, players_hold_the_public, public_agrees,
 };

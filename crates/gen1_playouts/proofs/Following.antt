@@ -4,10 +4,10 @@ use Rattle.std.specs.Prelude.{max}
 use Rattle.std.proofs.lemmas.Bool.{false≢true}
 use Rattle.gen1_rolls.specs.Streams.{Link, Stream}
 use Rattle.gen1_stats.specs.Members.{Member, nobody}
-use Rattle.gen1_machine.specs.declared.choice.Choice.{Choice}
-use Rattle.gen1_machine.specs.declared.choice.Choice.TheVariants as choices
+use Rattle.gen1_machine.specs.declared.side.Choice.{Choice}
+use Rattle.gen1_machine.specs.declared.side.Choice.TheVariants as choices
 use Rattle.gen1_machine.specs.declared.event.Event.{Event}
-use Rattle.gen1_machine.specs.declared.picks.Pick.{Pick}
+use Rattle.gen1_machine.specs.declared.side.Pick.{Pick}
 use Rattle.gen1_machine.specs.declared.side.Side.{Side}
 use Rattle.gen1_machine.specs.declared.side.Side.TheVariants.{One, Two}
 use Rattle.gen1_machine.specs.declared.terms.Outcome.{Outcome}
@@ -32,7 +32,7 @@ use Rattle.gen1_machine.proofs.Turns.{Alike, Between, FreeParty, alike-free, ali
 use Rattle.gen1_machine.proofs.Fitting.{offered-passes}
 use Rattle.gen1_machine.proofs.RunsEnd.{offered-is, state-ready, Waits}
 use Rattle.gen1_switching.proofs.Stepped.{valid-after}
-use Rattle.gen1_offers.specs.OfferedMask.{BothFollow, Follows, KeepsOut}
+use Rattle.gen1_offers.specs.OfferedChoices.{BothFollow, Follows, KeepsOut}
 use Rattle.gen1_offers.proofs.OfferedSet.{asks_nothing}
 
 -- a party

@@ -4,16 +4,16 @@ use Rattle.std.specs.Prelude.{replicate, None, Option, Some, if◌then◌else◌
 use Rattle.std.proofs.lemmas.Bool.{cases_eq, cases_lt}
 use Rattle.std.proofs.lemmas.List.{drop-drop, drop_more, get_or-append_right, get_or-drop, get_or-map, get_or-replicate, get_or_append_left, length-drop, length-replicate, take_more_set}
 use Rattle.std.proofs.Math.Nat.{mod-lt}
-use Rattle.gen1_machine.specs.declared.choice.Choice.{Choice}
-use Rattle.gen1_machine.specs.declared.choice.Choice.TheVariants.{Move, Pass, Switch}
+use Rattle.gen1_machine.specs.declared.side.Choice.{Choice}
+use Rattle.gen1_machine.specs.declared.side.Choice.TheVariants.{Move, Pass, Switch}
 use Rattle.gen1_machine.specs.declared.side.Side.{Side}
 use Rattle.gen1_machine.specs.State.{Field, Party, member_at, State, is_over, request_of, party}
 use Rattle.gen1_machine.specs.Step.{is_among, same_choice, offers, step, Ran, run, run_by}
-use Rattle.gen1_offers.specs.OfferedMask.{all_choices, chosen_by, choices_in, offered_mask, Follows, IsBench}
+use Rattle.gen1_offers.specs.OfferedChoices.{all_choices, chosen_by, choices_in, offered_mask, Follows, IsBench}
 use Rattle.gen1_offers.proofs.MaskChoices.{chosen-even, chosen-odd, offered_chosen}
 use Rattle.gen1_offers.proofs.OfferedSet.{other_number, asks_nothing}
 use Rattle.gen1_playouts.specs.Playouts.{IsZeros, choice_by, repeated, weight_in, weighted, hp_left, hp_unhurt, leader, leading, sum_in, IsDrawn, Playout, drawn_from, end_in, most_updates, next_state, play_on, played, IsRound, MayEndAs, PlaysOut, Tally, counting, no_counts, one_more, tally, IsPlayedOut, Numbers, begun, numbers_from, one_number}
-use Rattle.gen1_engine.proofs.Offers.{among-at, or-yes, offers-some, Accepts}
+use Rattle.gen1_engine.proofs.Making.{among-at, or-yes, offers-some, Accepts}
 use Rattle.gen1_stats.specs.Members.{Member}
 use Rattle.gen1_machine.specs.declared.side.Side.TheVariants.{One, Two}
 use Rattle.gen1_machine.specs.declared.terms.Outcome.{Outcome}
@@ -25,11 +25,11 @@ use Rattle.gen1_machine.specs.Valid.{IsStarted, IsState, IsUnstarted}
 use Rattle.gen1_layout.specs.Parts.{Parts}
 use Rattle.gen1_layout.specs.Shows.{Telling, Stands, Within, setting_of}
 use Rattle.gen1_layout.proofs.Storing.{within_of}
-use Rattle.gen1_switching.specs.Updates.{Steps}
+use Rattle.gen1_switching.specs.SwitchingIn.{Steps}
 use Rattle.gen1_playouts.specs.declared.playouts.Playouts.{Playouts}
 use Rattle.gen1_playouts.specs.declared.playouts.PlayoutOptions.{PlayoutOptions}
 use Rattle.gen1_rolls.specs.Steady.{Ring, ring_of}
-use Rattle.gen1_engine.specs.Reseed.{reseeded}
+use Rattle.gen1_engine.specs.Update.{reseeded}
 use Rattle.gen1_machine.proofs.Runs.{runs_append}
 use Rattle.gen1_offers.specs.declared.bench.Bench.{Bench}
 use Rattle.gen1_playouts.proofs.Following.{both-follow}

@@ -3,8 +3,8 @@ use Rattle.std.specs.Prelude.{List, None, Option, Some, [], if◌then◌else◌,
 use Rattle.std.specs.List.{AllByRecursion}
 use Rattle.gen1_rolls.specs.Steady.{ring_of}
 use Rattle.gen1_rolls.specs.Streams.{iterate}
-use Rattle.gen1_machine.specs.declared.choice.Choice.{Choice}
-use Rattle.gen1_machine.specs.declared.choice.Choice.TheVariants.{Move, Pass}
+use Rattle.gen1_machine.specs.declared.side.Choice.{Choice}
+use Rattle.gen1_machine.specs.declared.side.Choice.TheVariants.{Move, Pass}
 use Rattle.gen1_machine.specs.declared.side.Side.{Side}
 use Rattle.gen1_machine.specs.declared.side.Side.TheVariants.{One, Two}
 use Rattle.gen1_machine.specs.OfferedChoices.{offered}
@@ -13,7 +13,7 @@ use Rattle.gen1_machine.specs.declared.terms.Outcome.TheVariants.{Tie, WinOne, W
 use Rattle.gen1_machine.specs.Laws.{accepted_in}
 use Rattle.gen1_machine.specs.State.{Field, Party, State, is_over, known_in, member_at, member_in, party}
 use Rattle.gen1_machine.specs.Step.{run, step}
-use Rattle.gen1_engine.specs.Reseed.{reseeded}
+use Rattle.gen1_engine.specs.Update.{reseeded}
 use Rattle.gen1_stats.specs.Members.{Member}
 use Rattle.gen1_playouts.specs.declared.playouts.Playouts.{Playouts}
 use Rattle.gen1_playouts.specs.declared.playouts.PlayoutOptions.{PlayoutOptions}

@@ -1,13 +1,12 @@
-//! Battles played by random choices, to their end or for a number of updates (include/gen1.h, "many battles").
-ghost use Rattle.std.specs.Prelude.{IfOk, IsOk, false, ◌+◌, ◌<◌, ◌≡◌};
+//! Battles played by random choices, to their end or for a number of updates, and which side is ahead in one that is not
+//! over (include/gen1.h, "many battles").
+ghost use Rattle.std.specs.Prelude.{IfOk, IsOk, false, ◌+◌, ◌<◌, ◌≡◌, ◌≤◌};
 ghost use Rattle.gen1_machine.specs.State.{State, is_over};
 ghost use Rattle.gen1_layout.specs.Shows.{Stands};
-ghost use Rattle.gen1_offers.specs.OfferedMask.{IsBench, IsInRange, offered_mask};
-ghost use Rattle.gen1_playouts.specs.Playouts.{EndsAs, IsDrawn, IsPlayedOut, IsRound, IsZeros, MayEndAs, PlaysOut, counting, drawn_from, end_in, most_updates, total};
+ghost use Rattle.gen1_offers.specs.OfferedChoices.{IsBench, IsInRange, offered_mask};
+ghost use Rattle.gen1_playouts.specs.Playouts.{EndsAs, IsDrawn, IsPlayedOut, IsRound, IsZeros, MayEndAs, PlaysOut, counting, drawn_from, end_in, hp_left, hp_unhurt, leader, leading, most_updates, total};
 
-use crate::ahead::leader;
-use crate::choice_generator::ChoiceGenerator;
-use crate::weights::{has_weights, pick, pick_weighted, weights_of};
+use crate::weights::{ChoiceGenerator, has_weights, pick, pick_weighted, weights_of};
 use gen1_engine::packed::{count_of, reseed, result, update_offered};
 use gen1_events::Silent;
 use gen1_layout::Packed;
@@ -205,4 +204,51 @@ fn end_now(battle: &Packed) -> Outcome
     } else {
         leader(battle)
     }
+}
+
+// A win of the side that has the larger share of its HP left, or a tie. The shares are compared as cross products.
+fn leader(battle: &Packed) -> Outcome
+    ensures { (s : State) → Stands battle.now s → result ≡ leader s.field }
+{
+    let left_one = hp_left(battle, Side::One);
+    let left_two = hp_left(battle, Side::Two);
+    let unhurt_one = hp_unhurt(battle, Side::One);
+    let unhurt_two = hp_unhurt(battle, Side::Two);
+    leading(left_one * unhurt_two, left_two * unhurt_one)
+}
+
+fn leading(one: u64, two: u64) -> Outcome
+    ensures { result ≡ leading one two }
+{
+    if two < one {
+        return Outcome::WinOne;
+    }
+    if one < two {
+        return Outcome::WinTwo;
+    }
+    Outcome::Tie
+}
+
+// The HP that the members of a side have left.
+fn hp_left(battle: &Packed, side: Side) -> u64
+    ensures stands { (s : State) → Stands battle.now s → result ≡ hp_left side s.field }
+    ensures bound { result ≤ 393210 }
+{
+    let mut sum = 0;
+    for before in 0..6 {
+        sum += u64::from(battle.hp_at(side, before + 1));
+    }
+    sum
+}
+
+// The sum of the maximum HP of a side's members.
+fn hp_unhurt(battle: &Packed, side: Side) -> u64
+    ensures stands { (s : State) → Stands battle.now s → result ≡ hp_unhurt side s.field }
+    ensures bound { result ≤ 393210 }
+{
+    let mut sum = 0;
+    for before in 0..6 {
+        sum += u64::from(battle.max_hp_at(side, before + 1));
+    }
+    sum
 }

@@ -1,13 +1,12 @@
-//! Choices drawn by a table of weights (include/gen1.h, "many battles").
-ghost use Rattle.std.specs.Prelude.{false, length, map, slice_index_or, ◌%◌, ◌*◌, ◌<◌, ◌≡◌, ◌≤◌, ℕ};
-ghost use Rattle.gen1_machine.specs.declared.choice.Choice.{Choice};
-ghost use Rattle.gen1_machine.specs.declared.choice.Choice.TheVariants as choices;
+//! Choices drawn by a table of weights, and the generator of playouts (include/gen1.h, "many battles").
+ghost use Rattle.std.specs.Prelude.{false, length, map, slice_index_or, ℕ, ◌%◌, ◌*◌, ◌/◌, ◌<◌, ◌≡◌, ◌≤◌};
+ghost use Rattle.gen1_machine.specs.declared.side.Choice.{Choice};
+ghost use Rattle.gen1_machine.specs.declared.side.Choice.TheVariants as choices;
 ghost use Rattle.gen1_machine.specs.State.{Field};
 ghost use Rattle.gen1_layout.specs.Shows.{Setting, Within};
-ghost use Rattle.gen1_offers.specs.OfferedMask.{all_choices, choices_in};
-ghost use Rattle.gen1_playouts.specs.Playouts.{IsDrawn, IsZeros, repeated, weight_in, weighted};
+ghost use Rattle.gen1_offers.specs.OfferedChoices.{all_choices, choices_in};
+ghost use Rattle.gen1_playouts.specs.Playouts.{IsDrawn, IsZeros, next_state, numbers_from, repeated, weight_in, weighted};
 
-use crate::choice_generator::ChoiceGenerator;
 use gen1_engine::packed::{choice_at, count_of};
 use gen1_layout::Packed;
 use gen1_machine::{Choice, Side};
@@ -129,4 +128,52 @@ fn weight_at(mask: u16, weight: u8) -> u16
     ensures bound { result ≤ 255 }
 {
     if mask % 2 == 1 { u16::from(weight) } else { 0 }
+}
+
+/// A linear congruential generator modulo 2 to the power of 64. A draw is the upper 32 bits of its state.
+#[derive(Drop)]
+pub struct ChoiceGenerator {
+    /// The state, which is the seed at first.
+    pub state: u64,
+}
+
+impl ChoiceGenerator {
+    /// The generator before its first draw.
+    pub fn new(seed: u64) -> Self
+        ensures { result.state ≡ seed }
+    {
+        ChoiceGenerator { state: seed }
+    }
+
+    /// Draws a number from 0 to `count - 1`: the upper bits of the next state, modulo the count.
+    pub fn below(&mut self, count: usize) -> usize
+        requires some { 1 ≤ count }
+        ensures state { self.new.state ≡ next_state self.old.state }
+        ensures value { result ≡ next_state self.old.state / 4294967296 % count }
+        ensures bound { result < count }
+    {
+        self.state = next_state(self.state);
+        (self.state / 4294967296) as usize % count
+    }
+
+    /// Draws the ten numbers of a battle, from the first on (docs/MECHANICS.md, "Link numbers").
+    pub fn ten_numbers(&mut self) -> [u8; 10]
+        ensures drawn { result ≡ (numbers_from self.old.state 10).drawn }
+        ensures state { self.new.state ≡ (numbers_from self.old.state 10).random }
+    {
+        let mut numbers = [0; 10];
+        for place in 0..10 {
+            numbers[place] = self.below(256) as u8;
+        }
+        numbers
+    }
+}
+
+// Knuth's multiplier and increment.
+fn next_state(state: u64) -> u64
+    ensures { result ≡ next_state state }
+{
+    state
+        .wrapping_mul(6364136223846793005)
+        .wrapping_add(1442695040888963407)
 }

@@ -13,8 +13,8 @@ use Rattle.std.specs.List.{list_all}
 use Rattle.std.specs.Option.{is_none}
 use Rattle.std.proofs.lemmas.List.Kept.{AllPairs-filter}
 use Rattle.std.proofs.lemmas.List.Sums.{AllPass-from_list_all}
-use Rattle.gen1_random.specs.declared.pools.Pool.{Pool}
-use Rattle.gen1_random.specs.declared.pools.Pool.TheVariants.{Moves, SampleSpecies, Samples, Species}
+use Rattle.gen1_random.specs.declared.teams.Pool.{Pool}
+use Rattle.gen1_random.specs.declared.teams.Pool.TheVariants.{Moves, SampleSpecies, Samples, Species}
 use Rattle.gen1_random.specs.declared.sample_rows.TheConstants.{SAMPLE_ROWS}
 use Rattle.gen1_random.specs.declared.teams.DrawnFrom.{DrawnFrom}
 use Rattle.gen1_stats.specs.Teams.{first_refusal, member_refusal, team_refusal, Sheet}

@@ -2,14 +2,14 @@
 use Rattle.std.specs.Prelude.{All, AllPairs, Bool, List, None, Option, Some, [], filter, if◌then◌else◌, length, map, nat_lt, not, remove, replicate, slice_index_or, suc, true, zero, ℕ, ◌%◌, ◌*◌, ◌++◌, ◌+◌, ◌-◌, ◌/◌, ◌==◌, ◌^◌, ◌∷◌, ◌≡◌, ◌≢◌, ◌≤◌}
 use Rattle.std.specs.List.{list_any}
 use Rattle.gen1_playouts.specs.Playouts.{next_state}
-use Rattle.gen1_random.specs.declared.pools.Pool.{Pool}
-use Rattle.gen1_random.specs.declared.pools.Pool.TheVariants.{Moves, SampleSpecies, Samples, Species}
+use Rattle.gen1_random.specs.declared.teams.Pool.{Pool}
+use Rattle.gen1_random.specs.declared.teams.Pool.TheVariants.{Moves, SampleSpecies, Samples, Species}
 use Rattle.gen1_random.specs.declared.sample_rows.TheConstants.{SAMPLE_ROWS}
 use Rattle.gen1_stats.specs.Members.{IsBetween, is_left_out}
 use Rattle.gen1_rolls.specs.Streams.{iterate}
 use Rattle.gen1_random.specs.declared.teams.DrawnFrom.{DrawnFrom}
-use Rattle.gen1_stats.specs.declared.refusal.TeamRefusal.{TeamRefusal}
-use Rattle.gen1_stats.specs.declared.refusal.TeamRefusal.TheVariants.{Empty, TooMany}
+use Rattle.gen1_stats.specs.declared.team.TeamRefusal.{TeamRefusal}
+use Rattle.gen1_stats.specs.declared.team.TeamRefusal.TheVariants.{Empty, TooMany}
 use Rattle.gen1_stats.specs.Teams.{Sheet, team_refusal}
 use Rattle.gen1_random.specs.declared.teams.DrawnFrom.TheVariants as from
 

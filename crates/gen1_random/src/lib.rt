@@ -1,11 +1,9 @@
 //! Random teams, and the sample teams (docs/MECHANICS.md, "Random teams").
 //!
-//! - `pools`: what members and moves are drawn from
 //! - `sample_rows`: the members of the sample teams
-//! - `teams`: [`random_members`] and [`sample_members`]
+//! - `teams`: [`random_members`] and [`sample_members`], and what members and moves are drawn from
 #![tactic(auto)]
 
-mod pools;
 mod sample_rows;
 mod teams;
 

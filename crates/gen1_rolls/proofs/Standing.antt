@@ -1,8 +1,8 @@
 -- The place of a generator in a stream, after draws and searches.
 use Rattle.std.proofs.Common.{◌≡◌, ℕ, suc, ◌⊎◌, inl, inr, subst, ◌+◌, ◌<◌, ◌≤◌, Bool, IsFalse, Option, Some, None, IfNone, IfSome, refl, sym, ap, ◌∙◌, arith, true, false, nat_le, nat_lt, if◌then◌else◌, zero, ◌%◌}
 use Rattle.std.proofs.lemmas.Bool.Decides.{nat_tests}
-use Rattle.gen1_rolls.specs.declared.look.Look.{Look}
-use Rattle.gen1_rolls.specs.declared.look.Look.TheVariants.{Remainder}
+use Rattle.gen1_rolls.specs.declared.rolls.Look.{Look}
+use Rattle.gen1_rolls.specs.declared.rolls.Look.TheVariants.{Remainder}
 use Rattle.gen1_rolls.specs.Draws.{Drawing, Source, StandsIn, Finds, IsFound, IsMissed, Misses}
 use Rattle.gen1_rolls.specs.Streams.{sees, iterate, Stream, byte_at, span, first, IsStream, HoldsEveryByte, Sweep}
 use Rattle.gen1_rolls.specs.Steady.{Generator, draws_of, stream_of, steady, FindsDraw, FindsNoDraw, StandsAt, one_up, sweep}

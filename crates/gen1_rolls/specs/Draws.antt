@@ -5,7 +5,7 @@
 use Rattle.std.specs.Prelude.{◌≡◌, ℕ, ◌+◌, ◌<◌, Bool, IsFalse, IsTrue, Some, None}
 use Rattle.std.specs.Borrow.{MutBor}
 use denote.Triple.Both.{Both}
-use Rattle.gen1_rolls.specs.declared.look.Look.{Look}
+use Rattle.gen1_rolls.specs.declared.rolls.Look.{Look}
 use Rattle.gen1_rolls.specs.Streams.{sees, Stream, byte_at, first, span}
 
 -- A parameter `&mut T`, as an `ensures` has it: its value at the call and its value at the return.

@@ -1,9 +1,9 @@
 -- Streams of bytes, and the first byte of a stream that passes a test (docs/MECHANICS.md, "Link numbers").
 use Rattle.std.specs.Prelude.{◌≡◌, ℕ, zero, suc, ◌+◌, ◌*◌, ◌/◌, ◌%◌, ◌^◌, ◌<◌, ◌≤◌, Bool, true, false, IsTrue, IsFalse, List, length, All, Option, Some, None, slice_index, ◌==◌, ◌&&◌, nat_le, nat_lt, min, slice_index_or, if◌then◌else◌}
-use Rattle.gen1_rolls.specs.declared.look.ByteTest.{ByteTest}
-use Rattle.gen1_rolls.specs.declared.look.ByteTest.TheVariants.{RotatedAtLeast, PositiveBelow, NotMultiple, PlaceOf}
-use Rattle.gen1_rolls.specs.declared.look.Look.{Look}
-use Rattle.gen1_rolls.specs.declared.look.Look.TheVariants.{Below, RotatedBelow, Remainder, Factor}
+use Rattle.gen1_rolls.specs.declared.rolls.ByteTest.{ByteTest}
+use Rattle.gen1_rolls.specs.declared.rolls.ByteTest.TheVariants.{RotatedAtLeast, PositiveBelow, NotMultiple, PlaceOf}
+use Rattle.gen1_rolls.specs.declared.rolls.Look.{Look}
+use Rattle.gen1_rolls.specs.declared.rolls.Look.TheVariants.{Below, RotatedBelow, Remainder, Factor}
 
 -- f applied n times.
 abbrev pub iterate : {A : Type 0} → ℕ → (A → A) → A → A

@@ -2,7 +2,7 @@
 ghost use Rattle.gen1_rolls.specs.Steady.{stream_of, StandsAt};
 ghost use Rattle.gen1_rolls.specs.Streams.{IsStream};
 
-use crate::steady::Steady;
+use crate::rolls::Steady;
 
 /// A generator is at the beginning of its own stream, which keeps to the law of streams: it is bytes, of which any `SPAN`
 /// in a row hold every number. A clause about each stream is also about this one.

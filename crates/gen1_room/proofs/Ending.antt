@@ -1,12 +1,12 @@
 -- A pair that ends: what it leaves, and that its number is in range.
 use Rattle.std.proofs.Common.{ap, false, refl, ◌≡◌, Bool, List, [], arith, inl, inr, length, subst, suc, sym, true, zero, ℕ, ◌&&◌, ◌+◌, ◌-◌, ◌<◌, ◌==◌, ◌≢◌, ◌≤◌, ◌∷◌, Err, None, Ok, Option, Result, Some, ◌∙◌, ◌⊎◌}
 use Rattle.gen1_machine.specs.declared.side.Side.TheVariants.{One, Two}
-use Rattle.gen1_machine.specs.declared.choice.Choice.{Choice}
+use Rattle.gen1_machine.specs.declared.side.Choice.{Choice}
 use Rattle.gen1_machine.specs.Progress.{Progress}
 use Rattle.gen1_machine.specs.Ruling.{ruling_of}
 use Rattle.gen1_machine.specs.State.{is_over, State, Active, Party, Field, has_fallen_in, is_pass, request_of, Terms}
 use Rattle.gen1_machine.specs.Step.{Accepted, answered, opened, step, step_by, update, Stepped, events_of, is_among}
-use Rattle.gen1_engine.specs.Update.{AreOffered, Answers, AnswersAs, result_of, Tells, TellsAs}
+use Rattle.gen1_engine.specs.Update.{Answers, AnswersAs, AreOffered, Tells, TellsAs, reseeded, result_of}
 use Rattle.gen1_engine.proofs.Making.{goes_on, unstarted_at}
 use Rattle.std.specs.Prelude.{if◌then◌else◌, max}
 use Rattle.std.proofs.lemmas.Bool.Decides.{nat_tests}
@@ -19,7 +19,7 @@ use Rattle.gen1_machine.proofs.Turns.{alive, bench, bench-most, living, living_b
 use Rattle.gen1_machine.proofs.RunsEnd.{due, left, left_by, state-ready, step-lower, Lower, offered-is}
 use Rattle.gen1_layout.specs.Parts.{Parts}
 use Rattle.gen1_layout.specs.Shows.{Stands}
-use Rattle.gen1_room.specs.declared.held.Held.{Held}
+use Rattle.gen1_room.specs.declared.submission.Held.{Held}
 use Rattle.gen1_room.specs.Rooms.{Counts, ended, Holds, is_replaced, on_bench, pairs_left, IsRoom, Opens, reseeded_in}
 use Rattle.gen1_room.proofs.Rooms.{and_false}
 use Rattle.arrayvec.specs.ArrayVec.{ArrayVec}
@@ -31,8 +31,7 @@ use Rattle.gen1_machine.proofs.Fallen.{Standing, update-standing}
 use Rattle.gen1_events.specs.Reader.{IsReading}
 use Rattle.gen1_engine.specs.declared.result.BattleResult.{BattleResult}
 use Rattle.gen1_engine.specs.declared.result.Refusal.{Refusal}
-use Rattle.gen1_engine.specs.Reseed.{reseeded}
-use Rattle.gen1_machine.specs.declared.choice.Choice.TheVariants as choices
+use Rattle.gen1_machine.specs.declared.side.Choice.TheVariants as choices
 use Rattle.gen1_machine.specs.declared.terms.Request.TheVariants as requests
 use Rattle.gen1_machine.specs.declared.terms.Outcome.TheVariants as outcomes
 

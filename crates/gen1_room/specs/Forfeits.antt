@@ -1,6 +1,6 @@
 -- Forfeits (docs/MECHANICS.md, "Rooms").
 use Rattle.std.specs.Prelude.{Bool, Err, Ok, Result, Some, [], false, take, true, ◌+◌, ◌≡◌, ◌∷◌}
-use Rattle.gen1_machine.specs.declared.choice.Choice.TheVariants.{Pass}
+use Rattle.gen1_machine.specs.declared.side.Choice.TheVariants.{Pass}
 use Rattle.gen1_machine.specs.declared.event.Event.TheVariants.{Win}
 use Rattle.gen1_machine.specs.declared.side.Side.{Side}
 use Rattle.gen1_machine.specs.declared.side.Side.TheVariants.{One, Two}
@@ -15,8 +15,8 @@ use Rattle.gen1_events.specs.Reader.{IsReading}
 use Rattle.gen1_layout.specs.Shows.{Stands}
 use Rattle.gen1_engine.specs.declared.result.BattleResult.{BattleResult}
 use Rattle.gen1_room.specs.declared.plain.PlainRoom.{PlainRoom}
-use Rattle.gen1_room.specs.declared.reply.RoomRefusal.{RoomRefusal}
-use Rattle.gen1_room.specs.declared.reply.RoomRefusal.TheVariants.{Over}
+use Rattle.gen1_room.specs.declared.submission.RoomRefusal.{RoomRefusal}
+use Rattle.gen1_room.specs.declared.submission.RoomRefusal.TheVariants.{Over}
 
 abbrev pub won_by : Side → Outcome
 won_by One = WinOne

@@ -1,8 +1,8 @@
 -- The numbers of a room's refusals (docs/MECHANICS.md, "Rooms"), and their texts.
 use Rattle.std.specs.Prelude.{List, codes, ℕ, ◌++◌}
 use Rattle.std.specs.Fmt.{decimal}
-use Rattle.gen1_room.specs.declared.reply.RoomRefusal.{RoomRefusal}
-use Rattle.gen1_room.specs.declared.reply.RoomRefusal.TheVariants.{AlreadyChosen, NotOffered, Over, Stale}
+use Rattle.gen1_room.specs.declared.submission.RoomRefusal.{RoomRefusal}
+use Rattle.gen1_room.specs.declared.submission.RoomRefusal.TheVariants.{AlreadyChosen, NotOffered, Over, Stale}
 
 abbrev pub number_of : RoomRefusal → ℕ
 number_of Over = 1

@@ -3,7 +3,7 @@ use Rattle.std.specs.Prelude.{Bool, Err, List, None, Ok, Option, Result, Some, f
 use Rattle.gen1_rolls.specs.Steady.{Ring}
 use Rattle.gen1_machine.specs.declared.side.Side.{Side}
 use Rattle.gen1_machine.specs.declared.side.Side.TheVariants.{One, Two}
-use Rattle.gen1_machine.specs.declared.choice.Choice.{Choice}
+use Rattle.gen1_machine.specs.declared.side.Choice.{Choice}
 use Rattle.gen1_machine.specs.declared.terms.Request.{Request}
 use Rattle.gen1_machine.specs.declared.terms.Request.TheVariants.{Switch}
 use Rattle.gen1_machine.specs.OfferedChoices.{others_living_from, offered}
@@ -14,15 +14,14 @@ use Rattle.gen1_machine.specs.Valid.{StandsAs}
 use Rattle.gen1_events.specs.Reader.{IsReading}
 use Rattle.gen1_layout.specs.Parts.{Parts}
 use Rattle.gen1_layout.specs.Shows.{Stands}
-use Rattle.gen1_engine.specs.Reseed.{reseeded}
-use Rattle.gen1_engine.specs.Update.{AreOffered}
-use Rattle.gen1_room.specs.declared.held.Held.{Held}
-use Rattle.gen1_room.specs.declared.reply.Submitted.{Submitted}
-use Rattle.gen1_room.specs.declared.reply.RoomRefusal.{RoomRefusal as Why}
+use Rattle.gen1_engine.specs.Update.{AreOffered, reseeded}
+use Rattle.gen1_room.specs.declared.submission.Held.{Held}
+use Rattle.gen1_room.specs.declared.submission.Submitted.{Submitted}
+use Rattle.gen1_room.specs.declared.submission.RoomRefusal.{RoomRefusal as Why}
 use Rattle.gen1_machine.specs.Choices.{choice_at}
 use Rattle.gen1_room.specs.declared.plain.PlainRoom.{PlainRoom}
-use Rattle.gen1_room.specs.declared.reply.Submitted.TheVariants as submitted
-use Rattle.gen1_room.specs.declared.reply.RoomRefusal.TheVariants as whys
+use Rattle.gen1_room.specs.declared.submission.Submitted.TheVariants as submitted
+use Rattle.gen1_room.specs.declared.submission.RoomRefusal.TheVariants as whys
 
 -- Switches to the living members of a side that are not out. Before the start the first one counts as out, since it comes out first.
 abbrev pub on_bench : Side → Field → List Choice

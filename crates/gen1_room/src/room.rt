@@ -7,10 +7,7 @@ ghost use Rattle.gen1_events.specs.Reader.{IsReading};
 ghost use Rattle.gen1_layout.specs.Shows.{Stands};
 ghost use Rattle.gen1_room.specs.Rooms.{Holds, IsRoom, Takes, reply_of, reseeded_in, submission_at, submission_of};
 
-use crate::held::Held;
-use crate::reply::Reply;
-use crate::start::begin;
-use crate::submission::submit;
+use crate::submission::{Held, Reply, begin, submit};
 use gen1_engine::Battle;
 use gen1_machine::Side;
 use gen1_rolls::LinkRandom;
@@ -26,7 +23,7 @@ pub struct Room {
 }
 
 impl Model for Room {
-    ghost use Rattle.gen1_room.specs.declared.held.Held.{Held};
+    ghost use Rattle.gen1_room.specs.declared.submission.Held.{Held};
     ghost use Rattle.gen1_room.specs.Rooms.{IsRoom};
 
     ghost Value = { Held };

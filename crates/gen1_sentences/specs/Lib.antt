@@ -1,3 +1,2 @@
 -- The sentence of an event, and what it needs of the events before.
-pub mod Narrators
 pub mod Sentences

@@ -2,12 +2,10 @@
 //!
 //! - `narrator`: the reader of the sentences, and the members that are out
 //! - `sentences`: the sentence of an event
-//! - `amounts`: HP, what is lost or gained, and levels, in words
-//! - `texts`: the other words in sentences
+//! - `texts`: the words in sentences, also of HP, what is lost or gained, and levels
 //! - `laws`: what holds for all sentences
 #![tactic(auto)]
 
-mod amounts;
 pub mod laws;
 mod narrator;
 mod sentences;

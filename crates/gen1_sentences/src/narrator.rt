@@ -2,7 +2,7 @@
 ghost use Rattle.std.specs.Prelude.{None, Some, ◌≡◌};
 ghost use Rattle.gen1_machine.specs.Sides.{other};
 ghost use Rattle.gen1_machine.specs.Numbers.{side_number};
-ghost use Rattle.gen1_sentences.specs.Narrators.{before, follows, meets, narrator_of, of_side, person, put};
+ghost use Rattle.gen1_sentences.specs.Sentences.{before, follows, meets, narrator_of, of_side, person, put};
 
 use gen1_machine::{Event, Health, Side, Who};
 

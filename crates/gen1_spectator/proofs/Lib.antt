@@ -1,5 +1,3 @@
--- What each event does to a view.
-pub mod Sights
 -- Log bytes that a view follows, and logs one after the other.
 pub mod Following
 -- Views as plain structs.

@@ -1,4 +1,2 @@
--- What a view does with log bytes.
-pub mod Following
--- A view as a plain struct.
+-- A view as a plain struct, and how it follows a log.
 pub mod Plain

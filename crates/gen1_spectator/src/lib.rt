@@ -2,8 +2,7 @@
 //!
 //! - `view`: [`View`], of a whole battle
 //! - `side_view`: what one side shows
-//! - `shown`: what a member shows
-//! - `stages`: the stages of the active member
+//! - `shown`: what a member shows, and the stages of the active member
 //! - `plain`: a view as a plain struct that its caller keeps
 //! - `laws`: what holds for all views
 #![tactic(auto)]
@@ -12,7 +11,6 @@ mod laws;
 pub mod plain;
 mod shown;
 mod side_view;
-mod stages;
 mod view;
 
 pub use laws::{followers_agree, watchers_agree};

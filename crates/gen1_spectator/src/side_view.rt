@@ -6,8 +6,7 @@ ghost use Rattle.gen1_machine.specs.View.{cleared, first_side_view, if_out, not_
 ghost use Rattle.gen1_spectator.specs.Plain.{IsPlainSide, plain_side, shown_of, side_view_of, member_shown, side_sees};
 
 use crate::plain::{PlainMember, PlainSide, bit};
-use crate::shown::Shown;
-use crate::stages::Stages;
+use crate::shown::{Shown, Stages};
 use arrayvec::ArrayVec;
 use gen1_machine::{Event, Health, Kind, Place, Volatile};
 use gen1_stats::{Member, Team};

@@ -8,9 +8,8 @@ use Rattle.gen1_states.specs.declared.plain.ActiveState.{ActiveState}
 use Rattle.gen1_states.specs.declared.plain.BattleState.{BattleState}
 use Rattle.gen1_states.specs.declared.plain.MemberState.{MemberState}
 use Rattle.gen1_states.specs.declared.plain.SideState.{SideState}
-use Rattle.gen1_states.specs.Bytes.{bytes_of}
+use Rattle.gen1_states.specs.Plain.{bytes_of, first_side, member_at, second_side}
 use Rattle.gen1_states.specs.Tests.{completed}
-use Rattle.gen1_states.specs.Plain.{first_side, member_at, second_side}
 use Rattle.gen1_states.specs.Reading.{state_of}
 
 -- The plain state of a battle is accepted, and gives the same battle.

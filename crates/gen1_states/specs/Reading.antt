@@ -4,8 +4,8 @@ use Rattle.gen1_tables.specs.declared.effect.Stat.TheVariants.{Attack, Defense, 
 use Rattle.gen1_tables.specs.Types.{number_of}
 use Rattle.gen1_rolls.specs.Steady.{ring_at}
 use Rattle.gen1_stats.specs.Members.{Member, is_marked}
-use Rattle.gen1_stats.specs.declared.status.Status.{Status}
-use Rattle.gen1_stats.specs.declared.status.Status.TheVariants.{Asleep}
+use Rattle.gen1_stats.specs.declared.member.Status.{Status}
+use Rattle.gen1_stats.specs.declared.member.Status.TheVariants.{Asleep}
 use Rattle.gen1_machine.specs.declared.side.Side.{Side}
 use Rattle.gen1_machine.specs.declared.side.Side.TheVariants.{One, Two}
 use Rattle.gen1_machine.specs.CurrentStats.{now}

@@ -4,8 +4,7 @@ use Rattle.gen1_layout.specs.Loading.{may_be_known, effect_of_number}
 use Rattle.gen1_states.specs.declared.fault.Test.{Test}
 use Rattle.gen1_states.specs.declared.plain.MemberState.{MemberState}
 use Rattle.gen1_states.specs.declared.plain.SideState.{SideState}
-use Rattle.gen1_states.specs.Faults.{fault_at, first_of, on, ruled, within, Passed, Tested, ◌▸◌}
-use Rattle.gen1_states.specs.Plain.{member_at, first_side, second_side}
+use Rattle.gen1_states.specs.Plain.{Passed, Tested, fault_at, first_of, on, ruled, tested_header, within, ◌▸◌, first_side, member_at, second_side}
 use Rattle.std.specs.Int.{bit_at}
 use Rattle.gen1_tables.specs.declared.effect.Effect.{Effect}
 use Rattle.gen1_tables.specs.Effects.{bides, charges, rages, recharges, thrashes, traps}
@@ -17,7 +16,6 @@ use Rattle.gen1_tables.specs.declared.effect.Stat.TheVariants.{Attack, Defense, 
 use Rattle.gen1_machine.specs.Rules.{bit_of}
 use Rattle.gen1_machine.specs.Stages.{now_at}
 use Rattle.gen1_states.specs.declared.fault.StateFault.{StateFault}
-use Rattle.gen1_states.specs.HeaderTests.{tested_header}
 use Rattle.gen1_states.specs.declared.fault.StateField.TheVariants as fields
 
 -- The tests of a side's members (docs/LAYOUT.md, "Member"). A place whose species is 0 has no member, and all its

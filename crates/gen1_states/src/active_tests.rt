@@ -1,7 +1,7 @@
 //! The tests of the active members, without their current stats (docs/LAYOUT.md, "Active block", "Condition bits").
 //! At turn 0 no member is out, and all fields are 0.
 ghost use Rattle.std.specs.Prelude.{◌<◌, ◌≡◌, ◌≤◌};
-ghost use Rattle.gen1_states.specs.Faults.{within};
+ghost use Rattle.gen1_states.specs.Plain.{within};
 ghost use Rattle.gen1_states.specs.Tests.{count_tests, current_effect, fixed_tests, has, member_out, members_in, moves_in, place_test, progress_tests, stage_tests, tested_active, tested_block, tied_test, tied_tests, used_test, used_tests};
 
 use crate::fault::{StateFault, StateField, Test, at, first_of, on, ruled, within};

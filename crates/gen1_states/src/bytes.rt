@@ -2,7 +2,7 @@
 //! which loading refuses.
 ghost use Rattle.std.specs.Prelude.{◌+◌, ◌++◌, ◌≡◌, ◌≤◌, length};
 ghost use Rattle.gen1_machine.specs.Layout.{high_byte, low_byte};
-ghost use Rattle.gen1_states.specs.Bytes.{active_bytes, awake_byte, bytes_of, header_bytes, member_bytes, side_after, status_byte};
+ghost use Rattle.gen1_states.specs.Plain.{active_bytes, awake_byte, bytes_of, header_bytes, member_bytes, side_after, status_byte};
 
 use crate::plain::{
     ActiveState, BattleState, MemberState, SideState, first_side, member_at, second_side,
@@ -14,7 +14,7 @@ const NO_STATUS: u8 = 255;
 pub(crate) type Bytes = ArrayVec<u8, 384>;
 
 /// The bytes of a state whose current stats are complete.
-#[tactic(auto, unfolding(crate::specs::Bytes::bytes_of))]
+#[tactic(auto, unfolding(crate::specs::Plain::bytes_of))]
 pub(crate) fn bytes_of(state: &BattleState) -> Bytes
     ensures { result.items ≡ bytes_of state.now }
 {
@@ -25,7 +25,7 @@ pub(crate) fn bytes_of(state: &BattleState) -> Bytes
     bytes
 }
 
-#[tactic(auto, unfolding(crate::specs::Bytes::side_after))]
+#[tactic(auto, unfolding(crate::specs::Plain::side_after))]
 fn put_side(bytes: &mut Bytes, side: &SideState)
     requires { length bytes.old.items + 180 ≤ 384 }
     ensures items { bytes.new.items ≡ side_after bytes.old.items side.now }

@@ -1,6 +1,6 @@
 //! What is wrong with a plain state, and where (docs/LAYOUT.md, "Plain states").
 ghost use Rattle.std.specs.Prelude.{◌≡◌};
-ghost use Rattle.gen1_states.specs.Faults.{fault_at, field_number, first_of, on, ruled, within};
+ghost use Rattle.gen1_states.specs.Plain.{fault_at, field_number, first_of, on, ruled, within};
 
 /// The field of a plain state that is wrong. The order is that of the tests.
 #[derive(Clone, Copy, Debug, PartialEq, Eq)]
@@ -147,7 +147,7 @@ pub(crate) fn on(holds: bool, bound: u32) -> u32
 }
 
 /// The first test that fails.
-#[tactic(auto, unfolding(crate::specs::Faults::first_of))]
+#[tactic(auto, unfolding(crate::specs::Plain::first_of))]
 pub(crate) fn first_of(tests: &[Test]) -> Result<(), Test>
     ensures { result ≡ first_of tests.now }
 {

@@ -2,15 +2,13 @@
 //!
 //! - `plain`: the structs
 //! - `reading`: [`state_of`], the plain state of a battle
-//! - `writing`: [`from_state`], a battle of a plain state
-//! - `stats`: current stats that are left to be computed
+//! - `writing`: [`from_state`], a battle of a plain state, the first field that is wrong, and the fields of the whole
+//!   battle
+//! - `stats`: current stats that are left to be computed, and the tests of the others
 //! - `bytes`: the 384 bytes of a plain state
 //! - `fault`: what is wrong with a plain state, and where
-//! - `whole_tests`: the first field of a plain state that is wrong
-//! - `header_tests`: the fields of the whole battle
 //! - `member_tests`: the members
 //! - `active_tests`: the active members
-//! - `stat_tests`: their current stats
 //! - `request_tests`: turn, outcome, requests and living members together
 //! - `laws`: what holds for all states
 #![tactic(auto)]
@@ -18,15 +16,12 @@
 mod active_tests;
 mod bytes;
 mod fault;
-mod header_tests;
 pub mod laws;
 mod member_tests;
 mod plain;
 mod reading;
 mod request_tests;
-mod stat_tests;
 mod stats;
-mod whole_tests;
 mod writing;
 
 pub use fault::{StateFault, StateField};

@@ -1,7 +1,7 @@
 //! The plain state of a battle (docs/LAYOUT.md, "Plain states").
 ghost use Rattle.std.specs.Prelude.{All, ◌≡◌, ◌≤◌};
 ghost use Rattle.gen1_layout.specs.Words.{Reads, ReadsPacked, active_in, member_at, member_in, party};
-ghost use Rattle.gen1_stats.specs.declared.status.Status.{Status};
+ghost use Rattle.gen1_stats.specs.declared.member.Status.{Status};
 ghost use Rattle.gen1_machine.specs.LogBytes.{kind_or_0};
 ghost use Rattle.gen1_machine.specs.State.{State, kind_of};
 ghost use Rattle.gen1_layout.specs.Shows.{Stands};

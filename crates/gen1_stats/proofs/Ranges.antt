@@ -7,9 +7,9 @@ use Rattle.std.specs.List.{list_any, list_all}
 use Rattle.std.proofs.lemmas.Bool.Decides.{nat_tests}
 use Rattle.std.proofs.lemmas.Nat.{mul-le}
 use Rattle.gen1_tables.specs.Moves.{move_row, move_rows, struggle}
-use Rattle.gen1_stats.specs.declared.known_move.KnownMove.{KnownMove}
-use Rattle.gen1_stats.specs.declared.refusal.TeamRefusal.{TeamRefusal}
-use Rattle.gen1_stats.specs.declared.refusal.TeamRefusal.TheVariants.{Empty}
+use Rattle.gen1_stats.specs.declared.member.KnownMove.{KnownMove}
+use Rattle.gen1_stats.specs.declared.team.TeamRefusal.{TeamRefusal}
+use Rattle.gen1_stats.specs.declared.team.TeamRefusal.TheVariants.{Empty}
 use Rattle.gen1_stats.specs.Members.{IsBetween, IsFresh, IsKnown, IsMember, is_left_out, least_member}
 use Rattle.gen1_stats.specs.Teams.{Sheet, first_failed, known_of, member_of, member_refusal, repeats, tests, first_refusal}
 use Rattle.gen1_stats.specs.Stats.{full_pp}

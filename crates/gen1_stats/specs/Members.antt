@@ -3,9 +3,9 @@ use Rattle.std.specs.Prelude.{All, AllPairs, Bool, List, [], false, length, nat_
 use Rattle.gen1_tables.specs.declared.effect.Effect.{Effect}
 use Rattle.gen1_tables.specs.declared.effect.Effect.TheVariants.{LeftOut}
 use Rattle.gen1_tables.specs.Moves.{move_row, struggle}
-use Rattle.gen1_stats.specs.declared.known_move.KnownMove.{KnownMove}
-use Rattle.gen1_stats.specs.declared.status.Status.{Status}
-use Rattle.gen1_stats.specs.declared.status.Status.TheVariants.{Asleep, Frozen, Healthy, Paralysed}
+use Rattle.gen1_stats.specs.declared.member.KnownMove.{KnownMove}
+use Rattle.gen1_stats.specs.declared.member.Status.{Status}
+use Rattle.gen1_stats.specs.declared.member.Status.TheVariants.{Asleep, Frozen, Healthy, Paralysed}
 use Rattle.gen1_stats.specs.declared.member.Member.TheInside.{Inside}
 
 pub record Member : Type 0 where

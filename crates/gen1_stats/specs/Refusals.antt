@@ -2,8 +2,8 @@
 -- member, and their texts.
 use Rattle.std.specs.Prelude.{List, codes, if◌then◌else◌, ℕ, ◌++◌, ◌==◌}
 use Rattle.std.specs.Fmt.{decimal}
-use Rattle.gen1_stats.specs.declared.refusal.TeamRefusal.{TeamRefusal}
-use Rattle.gen1_stats.specs.declared.refusal.TeamRefusal.TheVariants.{Dv, Empty, Level, MoveLeftOut, NoMove, PpUps, RepeatedMove, StruggleChosen, TooMany}
+use Rattle.gen1_stats.specs.declared.team.TeamRefusal.{TeamRefusal}
+use Rattle.gen1_stats.specs.declared.team.TeamRefusal.TheVariants.{Dv, Empty, Level, MoveLeftOut, NoMove, PpUps, RepeatedMove, StruggleChosen, TooMany}
 
 abbrev pub number_of : TeamRefusal → ℕ
 number_of Empty = 1

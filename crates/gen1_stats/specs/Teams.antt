@@ -5,10 +5,10 @@ use Rattle.std.specs.List.{list_any}
 use Rattle.std.specs.Option.{option_or}
 use Rattle.gen1_tables.specs.Moves.{move_row, struggle}
 use Rattle.gen1_tables.specs.Species.{species_row}
-use Rattle.gen1_stats.specs.declared.known_move.KnownMove.{KnownMove}
-use Rattle.gen1_stats.specs.declared.refusal.TeamRefusal.{TeamRefusal}
-use Rattle.gen1_stats.specs.declared.refusal.TeamRefusal.TheVariants.{Dv, Empty, Level, MoveLeftOut, NoMove, PpUps, RepeatedMove, StruggleChosen, TooMany}
-use Rattle.gen1_stats.specs.declared.status.Status.TheVariants.{Healthy}
+use Rattle.gen1_stats.specs.declared.member.KnownMove.{KnownMove}
+use Rattle.gen1_stats.specs.declared.team.TeamRefusal.{TeamRefusal}
+use Rattle.gen1_stats.specs.declared.team.TeamRefusal.TheVariants.{Dv, Empty, Level, MoveLeftOut, NoMove, PpUps, RepeatedMove, StruggleChosen, TooMany}
+use Rattle.gen1_stats.specs.declared.member.Status.TheVariants.{Healthy}
 use Rattle.gen1_stats.specs.Members.{Member, is_left_out}
 use Rattle.gen1_stats.specs.Stats.{full_pp, hp_dv, hp_stat, stat}
 

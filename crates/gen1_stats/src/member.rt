@@ -1,13 +1,13 @@
-//! A member of a team at the beginning of a battle (docs/MECHANICS.md, "Stats").
-ghost use Rattle.std.specs.Prelude.{◌≡◌, ◌≢◌, ◌≤◌, All, AllPairs, IfErr, IfOk, None, OnOk, Some, length, map};
-ghost use Rattle.gen1_stats.specs.declared.status.Status.TheVariants.{Healthy};
-ghost use Rattle.gen1_stats.specs.Members.{IsBetween, IsFresh, IsKnown, least_member};
+//! A member of a team at the beginning of a battle, its stats, the moves that it knows, and its status
+//! (docs/MECHANICS.md, "Stats", "Teams", "Penalties").
+ghost use Rattle.std.specs.Prelude.{All, AllPairs, IfErr, IfOk, None, OnOk, Some, length, map, slice_index, ◌≡◌, ◌≢◌, ◌≤◌};
+ghost use Rattle.gen1_stats.specs.declared.member.Status.TheVariants.{Healthy};
+ghost use Rattle.gen1_stats.specs.Members.{IsBetween, IsFresh, IsKnown, is_healthy, least_member, sleeps_or_freezes};
 ghost use Rattle.gen1_stats.specs.Teams.{known_of, member_of, member_refusal};
+ghost use Rattle.gen1_stats.specs.Stats.{IsRoot, full_pp, hp_dv, hp_stat, points, root, stat};
 
-use crate::known_move::KnownMove;
 use crate::member_spec::MemberSpec;
-use crate::refusal::TeamRefusal;
-use crate::stats::{full_pp, hp_dv, hp_stat, stat};
+use crate::team::TeamRefusal;
 use arrayvec::ArrayVec;
 use gen1_tables::{MoveId, Species};
 use std::marker::Model;
@@ -187,4 +187,94 @@ fn known_moves(chosen: &[(MoveId, u8)]) -> ArrayVec<KnownMove, 4>
         moves.push(KnownMove { id, pp });
     }
     moves
+}
+
+/// A move that a member knows, with its remaining PP, at most 63 (docs/MECHANICS.md, "Teams").
+#[derive(Debug, Clone, Copy, Default, PartialEq, Eq)]
+pub struct KnownMove {
+    pub id: MoveId,
+    pub pp: u8,
+}
+
+/// Attack, Defense, Speed or Special of a species with this base stat, at most 999 (docs/MECHANICS.md, "Stats").
+pub fn stat(base: u8, dv: u8, exp: u16, level: u8) -> u16
+    ensures value { result ≡ stat base dv exp level }
+    ensures rounded_up { IsRoot exp (root exp) }
+{
+    (points(base, dv, exp, level) + 5).min(999) as u16
+}
+
+/// The maximum HP of a species with this base stat, at most 999 (docs/MECHANICS.md, "Stats").
+pub fn hp_stat(base: u8, dv: u8, exp: u16, level: u8) -> u16
+    ensures { result ≡ hp_stat base dv exp level }
+{
+    (points(base, dv, exp, level) + u32::from(level) + 10).min(999) as u16
+}
+
+// The common part of HP and the other stats.
+fn points(base: u8, dv: u8, exp: u16, level: u8) -> u32
+    ensures value { result ≡ points base dv exp level }
+    ensures high { result ≤ 2761 }
+{
+    let growth = (u32::from(base) + u32::from(dv)) * 2 + u32::from(root(exp)) / 4;
+    growth * u32::from(level) / 100
+}
+
+// The square root of the experience, rounded up, and at most 255.
+fn root(exp: u16) -> u16
+    ensures value { result ≡ root exp }
+    ensures least { IsRoot exp result }
+{
+    let floor = exp.isqrt();
+    if floor * floor == exp {
+        floor
+    } else {
+        (floor + 1).min(255)
+    }
+}
+
+/// The DV of HP, from those of Attack, Defense, Speed and Special.
+fn hp_dv(dvs: [u8; 4]) -> u8
+    ensures { result ≡ hp_dv (slice_index dvs 0) (slice_index dvs 1) (slice_index dvs 2)
+        (slice_index dvs 3) }
+{
+    8 * (dvs[0] % 2) + 4 * (dvs[1] % 2) + 2 * (dvs[2] % 2) + dvs[3] % 2
+}
+
+/// The PP of a move with this many PP ups.
+fn full_pp(base: u8, ups: u8) -> u8
+    requires base_fits { base ≤ 40 }
+    requires ups_fit { ups ≤ 3 }
+    ensures value { result ≡ full_pp base ups }
+{
+    base + ups * (base / 5).min(7)
+}
+
+/// A member's status.
+#[derive(Debug, Clone, Copy, Default, PartialEq, Eq)]
+pub enum Status {
+    #[default]
+    Healthy,
+    /// Asleep for this many more turns. It is marked if the sleep clause counts it.
+    Asleep { turns: u8, marked: bool },
+    Poisoned,
+    Burned,
+    Frozen,
+    Paralysed,
+}
+
+impl Status {
+    /// Whether the member has no status.
+    pub fn is_healthy(self) -> bool
+        ensures { result ≡ is_healthy self }
+    {
+        matches!(self, Status::Healthy)
+    }
+
+    /// Whether the status alone keeps the member from acting: it is asleep or frozen.
+    pub fn sleeps_or_freezes(self) -> bool
+        ensures { result ≡ sleeps_or_freezes self }
+    {
+        matches!(self, Status::Asleep { .. } | Status::Frozen)
+    }
 }

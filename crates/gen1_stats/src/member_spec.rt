@@ -5,7 +5,7 @@ ghost use Rattle.gen1_tables.specs.Moves.{struggle};
 ghost use Rattle.gen1_stats.specs.Members.{is_left_out};
 ghost use Rattle.gen1_stats.specs.Teams.{member_refusal, repeats};
 
-use crate::refusal::TeamRefusal;
+use crate::team::TeamRefusal;
 use arrayvec::ArrayVec;
 use gen1_tables::{Effect, MoveId, STRUGGLE, Species};
 use std::marker::Model;

@@ -4,8 +4,8 @@ use Rattle.std.proofs.lemmas.Nat.{and_mask}
 use Rattle.std.specs.Int.RustNames.{bit_and}
 use Rattle.gen1_layout.proofs.Counts.{lowest_three, none_above}
 use Rattle.gen1_layout.proofs.Words.{ap, nat_tests, ◌∙◌, DisabledSlot, Active, Field, Side, active_in, changed_active}
-use Rattle.gen1_stats.specs.declared.status.Status.{Status}
-use Rattle.gen1_stats.specs.declared.status.Status.TheVariants.{Asleep, Burned, Frozen, Healthy, Paralysed, Poisoned}
+use Rattle.gen1_stats.specs.declared.member.Status.{Status}
+use Rattle.gen1_stats.specs.declared.member.Status.TheVariants.{Asleep, Burned, Frozen, Healthy, Paralysed, Poisoned}
 use Rattle.gen1_machine.specs.Layout.{status_byte}
 use Rattle.gen1_machine.specs.Rules.{Rules}
 use Rattle.gen1_machine.specs.Valid.{IsStatus, IsCount, IsStages}
@@ -16,13 +16,13 @@ use Rattle.gen1_machine.specs.Conditions.{with_confusion_one_less, with_disable_
 use Rattle.std.proofs.Math.Bool.{or-false}
 use Rattle.gen1_tables.specs.Types.{any}
 use Rattle.gen1_stats.specs.Members.{is_living, nobody, Member}
-use Rattle.gen1_machine.specs.declared.health.Kind.{Kind}
+use Rattle.gen1_machine.specs.declared.event.Kind.{Kind}
 use Rattle.gen1_machine.specs.CurrentStats.{stage_of}
 use Rattle.gen1_tables.specs.declared.effect.Stat.{Stat}
 use Rattle.gen1_tables.specs.declared.effect.Stat.TheVariants.{Accuracy, Attack, Defense, Evasion, Special, Speed}
 use Rattle.gen1_layout.specs.Words.{SameNumbers}
 use Rattle.gen1_machine.specs.declared.side.Side.TheVariants.{One, Two}
-use Rattle.gen1_machine.specs.declared.health.Kind.TheVariants as kinds
+use Rattle.gen1_machine.specs.declared.event.Kind.TheVariants as kinds
 
 pub takes : (rules : Rules) (status : Status) → IsStatus rules status → not (bit_and (status_byte status) 24 == 0) ≡ takes_hp status
 takes rules Healthy ok = refl

@@ -12,11 +12,11 @@ use Rattle.gen1_machine.proofs.Steady.{land_on_foes_substitute-steady, land_on_h
 use Rattle.gen1_status.specs.declared.gate_answer.Gate.{Gate}
 use Rattle.gen1_status.specs.declared.gate_answer.Gate.TheVariants.{Go, Stop, Fault}
 use Rattle.gen1_status.specs.Gate.{Tells, TellsDrawn, action_after, frame_after, outcome_after, stopped_by, ActsAtOnce, IsFree, is_held, keeps_from_acting}
-use Rattle.gen1_stats.specs.declared.status.Status.{Status}
-use Rattle.gen1_stats.specs.declared.status.Status.TheVariants.{Asleep, Burned, Frozen, Healthy, Paralysed, Poisoned}
+use Rattle.gen1_stats.specs.declared.member.Status.{Status}
+use Rattle.gen1_stats.specs.declared.member.Status.TheVariants.{Asleep, Burned, Frozen, Healthy, Paralysed, Poisoned}
 use Rattle.gen1_stats.specs.Members.{is_frozen, is_living, is_paralysed, sleeps_or_freezes}
-use Rattle.gen1_machine.specs.declared.picks.Pick.{Pick}
-use Rattle.gen1_machine.specs.declared.picks.Pick.TheVariants.{Continue, Held, Idle, Use}
+use Rattle.gen1_machine.specs.declared.side.Pick.{Pick}
+use Rattle.gen1_machine.specs.declared.side.Pick.TheVariants.{Continue, Held, Idle, Use}
 use Rattle.gen1_machine.specs.Sides.{other}
 use Rattle.gen1_machine.specs.Layout.{condition_bits}
 use Rattle.gen1_layout.specs.Words.{any_at}

@@ -2,10 +2,10 @@
 -- "Gate").
 use Rattle.std.specs.Prelude.{◌≡◌, None}
 use Rattle.gen1_layout.specs.Words.{Bool, Field, conditions_in, false, other, status_in, true, underway_in, Frame, Phase, Shows, ShowsDrawn, Telling}
-use Rattle.gen1_stats.specs.declared.status.Status.{Status}
-use Rattle.gen1_stats.specs.declared.status.Status.TheVariants.{Asleep, Frozen, Paralysed}
-use Rattle.gen1_machine.specs.declared.picks.Pick.{Pick}
-use Rattle.gen1_machine.specs.declared.picks.Pick.TheVariants.{Held}
+use Rattle.gen1_stats.specs.declared.member.Status.{Status}
+use Rattle.gen1_stats.specs.declared.member.Status.TheVariants.{Asleep, Frozen, Paralysed}
+use Rattle.gen1_machine.specs.declared.side.Pick.{Pick}
+use Rattle.gen1_machine.specs.declared.side.Pick.TheVariants.{Held}
 use Rattle.gen1_machine.specs.Picks.{is_idle}
 use Rattle.gen1_rolls.specs.Draws.{Drawing, Ref, Since, Source}
 use Rattle.gen1_machine.specs.declared.terms.Outcome.{Outcome}

@@ -1,13 +1,13 @@
 -- A status by its kind, the statuses that take HP, and those that the clauses count (docs/MECHANICS.md, "Penalties",
 -- "Residual damage", "Rules (sleep clause, freeze clause)").
 use Rattle.std.specs.Prelude.{false, ℕ, Bool, true}
-use Rattle.gen1_stats.specs.declared.status.Status.{Status}
-use Rattle.gen1_stats.specs.declared.status.Status.TheVariants.{Asleep, Burned, Frozen, Paralysed, Poisoned}
+use Rattle.gen1_stats.specs.declared.member.Status.{Status}
+use Rattle.gen1_stats.specs.declared.member.Status.TheVariants.{Asleep, Burned, Frozen, Paralysed, Poisoned}
 use Rattle.gen1_stats.specs.Members.{IsBetween, is_frozen, is_marked}
-use Rattle.gen1_machine.specs.declared.health.Kind.{Kind}
-use Rattle.gen1_status.specs.declared.clauses.Clause.{Clause}
-use Rattle.gen1_status.specs.declared.clauses.Clause.TheVariants.{Freeze, Sleep}
-use Rattle.gen1_machine.specs.declared.health.Kind.TheVariants as kinds
+use Rattle.gen1_machine.specs.declared.event.Kind.{Kind}
+use Rattle.gen1_status.specs.declared.conditions.Clause.{Clause}
+use Rattle.gen1_status.specs.declared.conditions.Clause.TheVariants.{Freeze, Sleep}
+use Rattle.gen1_machine.specs.declared.event.Kind.TheVariants as kinds
 
 -- Sleep lasts this many turns and has no mark. The other kinds have no count.
 abbrev pub status_of_kind : Kind → ℕ → Status

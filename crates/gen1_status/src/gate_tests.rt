@@ -6,7 +6,7 @@ ghost use Rattle.gen1_layout.specs.Operations.{Does, anything, looking, scene};
 ghost use Rattle.gen1_layout.specs.Words.{AddsAtMost, Field, HasRoom, Setting, Within, true};
 ghost use Rattle.gen1_machine.specs.Action.{gate_or_held};
 ghost use Rattle.gen1_machine.specs.Gate.{cant, gate};
-ghost use Rattle.gen1_stats.specs.declared.status.Status.{Status as StatusOf};
+ghost use Rattle.gen1_stats.specs.declared.member.Status.{Status as StatusOf};
 ghost use Rattle.gen1_machine.specs.Layout.{status_byte};
 ghost use Rattle.gen1_machine.specs.Rules.{Rules};
 ghost use Rattle.gen1_machine.specs.Valid.{IsStatus};
@@ -14,13 +14,11 @@ ghost use Rattle.gen1_status.specs.Gate.{ActsAtOnce, is_held, keeps_from_acting,
 
 mod by_move;
 mod by_status;
-mod by_turn;
 mod confusion;
 
 use crate::Gate;
 use by_move::{gate_of_move, is_idle};
-use by_status::gate_of_status;
-use by_turn::gate_of_turn;
+use by_status::{gate_of_status, gate_of_turn};
 use gen1_events::EventSink;
 use gen1_layout::offsets::STATUS;
 use gen1_layout::{Conditions, Packed};

@@ -4,7 +4,7 @@ ghost use Rattle.gen1_layout.specs.Operations.{Does, quiet, scene};
 ghost use Rattle.gen1_layout.specs.Words.{AddsAtMost, Event, HasRoom, List, Reads, conditions_in, false, is_living, member_in, status_in};
 ghost use Rattle.gen1_machine.specs.Conditions.{one_more};
 ghost use Rattle.gen1_machine.specs.ResidualDamage.{residual, residual_in, suffer, suffer_seed, suffer_status, times_poisoned, worsen};
-ghost use Rattle.gen1_stats.specs.declared.status.Status.{Status as StatusOf};
+ghost use Rattle.gen1_stats.specs.declared.member.Status.{Status as StatusOf};
 ghost use Rattle.gen1_machine.specs.Layout.{status_byte};
 ghost use Rattle.gen1_machine.specs.Rules.{Rules};
 ghost use Rattle.gen1_machine.specs.Valid.{IsStatus};

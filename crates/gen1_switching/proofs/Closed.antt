@@ -16,7 +16,7 @@ use Rattle.gen1_machine.specs.Progress.{given, when}
 use Rattle.gen1_machine.specs.Ruling.{Ruling}
 use Rattle.gen1_machine.specs.Turn.{is_cut}
 use Rattle.gen1_machine.specs.Valid.{IsOutcome}
-use Rattle.gen1_switching.specs.Updates.{fault_in}
+use Rattle.gen1_switching.specs.SwitchingIn.{fault_in}
 
 -- A test that fails, before the rest.
 pub passed : (test : Progress → Bool) (f k : Phase) (p : Progress) → test p ≡ false → p.stopped ≡ false → (when test f ▸ k) p ≡ k p

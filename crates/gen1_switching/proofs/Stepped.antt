@@ -1,8 +1,8 @@
 -- The machine's step by a pair of offered choices, by the kind of update. The state after it is valid.
 use Rattle.gen1_layout.proofs.Words.{Parts, Progress, Telling, [], ap, false, inl, inr, refl, sym, true, ℕ, Bool, Field, Frame, Shows, Side, length, subst}
 use Rattle.std.proofs.Common.{◌∷◌, ◌≡◌, ◌⊎◌, ◌∙◌}
-use Rattle.gen1_machine.specs.declared.choice.Choice.{Choice}
-use Rattle.gen1_machine.specs.declared.choice.Choice.TheVariants.{Pass}
+use Rattle.gen1_machine.specs.declared.side.Choice.{Choice}
+use Rattle.gen1_machine.specs.declared.side.Choice.TheVariants.{Pass}
 use Rattle.gen1_machine.specs.declared.side.Side.TheVariants.{One, Two}
 use Rattle.gen1_machine.specs.declared.terms.Outcome.TheVariants.{Ongoing}
 use Rattle.gen1_machine.specs.declared.terms.Request.{Request}
@@ -14,7 +14,7 @@ use Rattle.gen1_machine.specs.Step.{accepted, answered, close_update, offers, op
 use Rattle.gen1_machine.specs.Valid.{IsState, IsAsked, IsField, IsStarted, IsUnstarted, StandsAs}
 use Rattle.gen1_machine.proofs.ValidStates.{states_stay_valid}
 use Rattle.gen1_layout.specs.Shows.{blocks_of, setting_of}
-use Rattle.gen1_switching.specs.Updates.{Plays, Starts, Steps, Updated, drawing_on}
+use Rattle.gen1_switching.specs.SwitchingIn.{Plays, Starts, Steps, Updated, drawing_on}
 use Rattle.std.proofs.lemmas.Bool.{false≢true}
 use Rattle.gen1_rolls.specs.Streams.{IsStream, Stream}
 use Rattle.gen1_stats.specs.Members.{IsBetween}
@@ -25,7 +25,7 @@ use Rattle.gen1_machine.proofs.Turns.{Between, send_one}
 use Rattle.gen1_machine.proofs.Fitting.{offered-fits, offered-place, Fits}
 use Rattle.gen1_machine.proofs.ValidSteps.{both_plan, both-planned, fits-comes, room-free, Room}
 use Rattle.gen1_machine.specs.declared.terms.Request.TheVariants as requests
-use Rattle.gen1_machine.specs.declared.choice.Choice.TheVariants as choices
+use Rattle.gen1_machine.specs.declared.side.Choice.TheVariants as choices
 
 -- A pair of offered choices is accepted.
 pub step_accepts : (s : State) (one two : Choice) → s.field.outcome ≡ Ongoing → offers s One one ≡ true → offers s Two two ≡ true

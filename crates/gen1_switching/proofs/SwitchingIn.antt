@@ -4,9 +4,9 @@ use Rattle.std.proofs.Common.{false, max, not, ◌++◌, ◌/◌, ◌==◌, ◌�
 use Rattle.std.specs.Int.RustNames.{bit_and}
 use Rattle.gen1_layout.specs.Words.{Packs}
 use Rattle.gen1_tables.specs.Species.{species_row}
-use Rattle.gen1_tables.specs.declared.element.Element.{Element}
-use Rattle.gen1_stats.specs.declared.status.Status.{Status}
-use Rattle.gen1_stats.specs.declared.status.Status.TheVariants.{Asleep, Burned, Frozen, Healthy, Paralysed, Poisoned}
+use Rattle.gen1_tables.specs.declared.types.Element.{Element}
+use Rattle.gen1_stats.specs.declared.member.Status.{Status}
+use Rattle.gen1_stats.specs.declared.member.Status.TheVariants.{Asleep, Burned, Frozen, Healthy, Paralysed, Poisoned}
 use Rattle.gen1_stats.specs.Members.{IsMember}
 use Rattle.gen1_machine.specs.declared.side.Side.TheVariants.{One, Two}
 use Rattle.gen1_machine.specs.Rules.{Rules}
@@ -23,8 +23,7 @@ use Rattle.gen1_machine.specs.Plans.{InRange}
 use Rattle.gen1_layout.specs.Shows.{own_stats_of, sent_as, stats_of, ShowsPacked, IsStorable, IsStorableParty}
 use Rattle.gen1_layout.proofs.Counts.{none_above}
 use Rattle.gen1_layout.proofs.Steps.{within_packed}
-use Rattle.gen1_switching.specs.SwitchingIn.{coming_out, halvings_of, has_penalty, quarterings_of, stats_out, stats_sent_out, with_out}
-use Rattle.gen1_switching.specs.Updates.{frame_of}
+use Rattle.gen1_switching.specs.SwitchingIn.{coming_out, halvings_of, has_penalty, quarterings_of, stats_out, stats_sent_out, with_out, frame_of}
 
 -- The machine's member that comes out is that of the code, by the penalty of its status.
 pub sent_made : (place : ℕ) (m : Member)

@@ -12,7 +12,7 @@ ghost use Rattle.gen1_machine.specs.Turn.{is_cut};
 ghost use Rattle.gen1_machine.specs.State.{has_fallen_in};
 ghost use Rattle.gen1_machine.specs.Valid.{IsOutcome};
 ghost use Rattle.gen1_stats.specs.Members.{IsBetween};
-ghost use Rattle.gen1_switching.specs.Updates.{Decides, ask_next, fault_in, turns_left};
+ghost use Rattle.gen1_switching.specs.SwitchingIn.{Decides, ask_next, fault_in, turns_left};
 
 use gen1_events::EventSink;
 use gen1_layout::Packed;

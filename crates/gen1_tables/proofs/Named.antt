@@ -13,9 +13,9 @@ use Rattle.std.proofs.lemmas.List.Quantifiers.{position-Some}
 use Rattle.std.proofs.lemmas.Slice.Eq.{bytes_eq-Decides}
 use Rattle.gen1_tables.specs.Names.{name_at, place_of, species_names, species_name, species_named, move_names, move_name, move_named}
 use denote.Enum.Bare.{sameb}
-use Rattle.gen1_tables.specs.contracts.element.Element.{the_type}
-use Rattle.gen1_tables.specs.declared.element.Element.{Element}
-use Rattle.gen1_tables.specs.declared.element.Element.TheVariants.{Normal}
+use Rattle.gen1_tables.specs.contracts.types.Element.{the_type}
+use Rattle.gen1_tables.specs.declared.types.Element.{Element}
+use Rattle.gen1_tables.specs.declared.types.Element.TheVariants.{Normal}
 use Rattle.gen1_tables.specs.Types.{same_type}
 
 -- The code's rows are those of the specification. Each table is computed once.

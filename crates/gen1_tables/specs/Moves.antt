@@ -1,7 +1,7 @@
 -- The moves, 1 to 165 (docs/TABLES.md, "Moves").
 use Rattle.std.specs.Prelude.{ℕ, List, [], ◌-◌, ◌∷◌, slice_index_or}
-use Rattle.gen1_tables.specs.declared.element.Element.{Element}
-use Rattle.gen1_tables.specs.declared.element.Element.TheVariants.{Normal, Fighting, Flying, Poison, Ground, Rock, Bug, Ghost, Fire, Water, Grass, Electric, Psychic, Ice, Dragon}
+use Rattle.gen1_tables.specs.declared.types.Element.{Element}
+use Rattle.gen1_tables.specs.declared.types.Element.TheVariants.{Normal, Fighting, Flying, Poison, Ground, Rock, Bug, Ghost, Fire, Water, Grass, Electric, Psychic, Ice, Dragon}
 use Rattle.gen1_tables.specs.declared.effect.Stat.TheVariants.{Attack, Defense, Speed, Special, Accuracy, Evasion}
 use Rattle.gen1_tables.specs.declared.effect.Effect.{Effect}
 use Rattle.gen1_tables.specs.declared.effect.Effect.TheVariants.{AlwaysFails, Bide, BurnChance, Charge, ChargeInvulnerable, ConfusionChance, Conversion, Counter, CrashOnMiss, DamageOnly, Disable, DoubleHit, Drain, DreamEater, Explode, FixedDamage, FlinchChance, FocusEnergy, FreezeChance, Haze, Heal, InflictConfusion, InflictParalysis, InflictPoison, InflictSleep, LeechSeed, LeftOut, Mist, MultiHit, NeverMisses, OneHitKnockOut, ParalysisChance, PayDay, PoisonChance, Rage, Recharge, Recoil, Screen, Splash, StatDown, StatDownChance, StatUp, Substitute, SuperFang, Thrash, Trapping, Twineedle}

@@ -1,8 +1,8 @@
 -- The types: their numbers, which of them are special, and the factors between them (docs/TABLES.md, "Types", "Type
 -- rows").
 use Rattle.std.specs.Prelude.{ℕ, List, [], ◌∷◌, Bool, true, false, filter, ◌==◌, ◌&&◌, ◌||◌, ◌%◌, ◌*◌, ◌/◌}
-use Rattle.gen1_tables.specs.declared.element.Element.{Element}
-use Rattle.gen1_tables.specs.declared.element.Element.TheVariants.{Normal, Fighting, Flying, Poison, Ground, Rock, Bug, Ghost, Fire, Water, Grass, Electric, Psychic, Ice, Dragon}
+use Rattle.gen1_tables.specs.declared.types.Element.{Element}
+use Rattle.gen1_tables.specs.declared.types.Element.TheVariants.{Normal, Fighting, Flying, Poison, Ground, Rock, Bug, Ghost, Fire, Water, Grass, Electric, Psychic, Ice, Dragon}
 
 abbrev pub number_of : Element → ℕ
 number_of Normal = 0

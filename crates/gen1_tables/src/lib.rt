@@ -1,7 +1,6 @@
 //! The types, species and moves of Generation I, as docs/TABLES.md lists them.
 //!
-//! - `element`: the types
-//! - `types`: the factors between types
+//! - `types`: the types, and the factors between them
 //! - `species`: the species
 //! - `moves`: the moves
 //! - `effect`: the effects of moves, and stats
@@ -9,14 +8,12 @@
 #![tactic(auto)]
 
 mod effect;
-mod element;
 mod moves;
 mod names;
 mod species;
 mod types;
 
 pub use effect::{Effect, Stat};
-pub use element::Element;
 pub use moves::{COUNTER, MoveId, STRUGGLE};
 pub use species::Species;
-pub use types::{TypeRow, effectiveness, type_rows};
+pub use types::{Element, TypeRow, effectiveness, type_rows};

@@ -12,11 +12,11 @@ use crate::effect::Effect::{
     StatDownChance, StatUp, Substitute, SuperFang, Thrash, Trapping, Twineedle,
 };
 use crate::effect::Stat::{Accuracy, Attack, Defense, Evasion, Special, Speed};
-use crate::element::Element::{
+use crate::names::{move_names, name_at, place_of};
+use crate::types::Element::{
     self, Bug, Dragon, Electric, Fighting, Fire, Flying, Ghost, Grass, Ground, Ice, Normal, Poison,
     Psychic, Rock, Water,
 };
-use crate::names::{move_names, name_at, place_of};
 use std::marker::Model;
 
 // Type, power, accuracy in percent, PP, effect, and the accuracy in 255ths. So a row has eight bytes, and is found

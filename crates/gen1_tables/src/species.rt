@@ -3,11 +3,11 @@ ghost use Rattle.std.specs.Prelude.{◌≡◌, ◌≢◌, ◌↔◌, ℕ, ◌≤
 ghost use Rattle.gen1_tables.specs.Names.{species_name, species_named};
 ghost use Rattle.gen1_tables.specs.Species.{species_row, base_of, types_of};
 
-use crate::element::Element::{
+use crate::names::{name_at, place_of, species_names};
+use crate::types::Element::{
     self, Bug, Dragon, Electric, Fighting, Fire, Flying, Ghost, Grass, Ground, Ice, Normal, Poison,
     Psychic, Rock, Water,
 };
-use crate::names::{name_at, place_of, species_names};
 use std::marker::Model;
 
 // The two types, and base HP, Attack, Defense, Speed, Special.

@@ -1,9 +1,9 @@
-//! The rows of the type chart (docs/TABLES.md, "Type rows").
-ghost use Rattle.std.specs.Prelude.{length, map, ◌≡◌, ◌≤◌};
-ghost use Rattle.gen1_tables.specs.Types.{in_tenths, TypeRow, row_of, rows_against, tenths_of, type_rows};
+//! The fifteen types, which of them are special, and the rows of the type chart (docs/TABLES.md, "Type rows", "Types").
+ghost use Rattle.std.specs.Prelude.{length, map, ◌<◌, ◌≡◌, ◌≤◌};
+ghost use Rattle.gen1_tables.specs.Types.{TypeRow, in_tenths, is_special, number_of, row_of, rows_against, tenths_of, type_rows};
 
-use crate::element::Element::{
-    self, Bug, Dragon, Electric, Fighting, Fire, Flying, Ghost, Grass, Ground, Ice, Normal, Poison,
+use crate::types::Element::{
+    Bug, Dragon, Electric, Fighting, Fire, Flying, Ghost, Grass, Ground, Ice, Normal, Poison,
     Psychic, Rock, Water,
 };
 
@@ -353,4 +353,42 @@ fn in_tenths(factors: u8) -> (u8, u8)
     ensures { result ≡ in_tenths factors }
 {
     (factors / 16 * 5, factors % 16 * 5)
+}
+
+/// A type of a species or a move. The first eight are physical, the other seven special
+/// (docs/TABLES.md, "Types").
+#[derive(Clone, Copy, PartialEq, Eq, Debug, Drop)]
+pub enum Element {
+    Normal,
+    Fighting,
+    Flying,
+    Poison,
+    Ground,
+    Rock,
+    Bug,
+    Ghost,
+    Fire,
+    Water,
+    Grass,
+    Electric,
+    Psychic,
+    Ice,
+    Dragon,
+}
+
+impl Element {
+    /// The number of the type, 0 for Normal to 14 for Dragon.
+    pub fn number(self) -> u8
+        ensures value { result ≡ number_of self }
+        ensures range { result < 15 }
+    {
+        self as u8
+    }
+
+    /// Whether damage by a move of this type uses Special against Special, instead of Attack against Defense.
+    pub fn is_special(self) -> bool
+        ensures { result ≡ is_special self }
+    {
+        self.number() >= Element::Fire.number()
+    }
 }

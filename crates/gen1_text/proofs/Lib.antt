@@ -1,4 +1,3 @@
 -- Lemmas about pieces, numbers, names, lines and packed fields.
-pub mod IdLemmas
 pub mod TextLemmas
 pub mod PackedLemmas

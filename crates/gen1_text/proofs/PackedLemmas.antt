@@ -4,10 +4,8 @@ use Rattle.std.specs.Prelude.{nat_le, option_map, slice_set, ◌==◌}
 use Rattle.std.proofs.Math.Seq.{take-suc-set}
 use Rattle.std.proofs.lemmas.Bool.Decides.{nat_tests}
 use Rattle.gen1_stats.specs.Teams.{Sheet}
-use Rattle.gen1_text.specs.MemberLines.{with_move}
+use Rattle.gen1_text.specs.MemberLines.{with_move, behind, Spread}
 use Rattle.gen1_text.specs.Packed.{all_unpacked, unpacked, each_number, number_if_any, six_numbers, with_moves}
-use Rattle.gen1_text.specs.Words.{behind}
-use Rattle.gen1_text.specs.Spreads.{Spread}
 use Rattle.gen1_text.specs.declared.fault.MemberFault.{MemberFault}
 use Rattle.gen1_text.specs.declared.fault.PackedFault.{PackedFault}
 use Rattle.gen1_text.specs.declared.fault.PackedFault.TheVariants.{SeventhMember}

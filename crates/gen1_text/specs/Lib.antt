@@ -1,10 +1,6 @@
--- Parts of a text, and numbers.
-pub mod Words
 -- Species and moves by their names.
 pub mod Ids
--- EVs and IVs.
-pub mod Spreads
--- The lines of a member.
+-- The lines of a member, and the words in them.
 pub mod MemberLines
 -- Whole texts.
 pub mod Texts

@@ -2,9 +2,7 @@
 use Rattle.std.specs.Prelude.{Err, List, None, Ok, Option, Result, Some, [], bytes_eq, codes, if◌then◌else◌, length, option_and_then, option_map, slice_index_or, ℕ, ◌==◌, ◌∷◌, nat_le, not, ◌+◌}
 use Rattle.std.specs.Option.{ok_or}
 use Rattle.gen1_stats.specs.Teams.{Sheet, team_of, team_refusal}
-use Rattle.gen1_text.specs.MemberLines.{with_level, with_move, named}
-use Rattle.gen1_text.specs.Words.{result_then, number_of, pieces_of, behind}
-use Rattle.gen1_text.specs.Spreads.{Spread, dvs_of_ivs, exp_of_evs, nothing_said}
+use Rattle.gen1_text.specs.MemberLines.{with_level, with_move, named, result_then, number_of, pieces_of, behind, Spread, dvs_of_ivs, exp_of_evs, nothing_said}
 use Rattle.gen1_text.specs.declared.fault.MemberFault.{MemberFault}
 use Rattle.gen1_text.specs.declared.fault.MemberFault.TheVariants.{Evs, Item, Ivs}
 use Rattle.gen1_stats.specs.Members.{Member}

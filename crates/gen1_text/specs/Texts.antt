@@ -3,8 +3,7 @@ use Rattle.std.specs.Prelude.{Bool, Err, List, None, Ok, Option, Result, Some, [
 use Rattle.std.specs.List.{starts_with}
 use Rattle.gen1_stats.specs.Members.{Member}
 use Rattle.gen1_stats.specs.Teams.{Sheet, team_of, team_refusal}
-use Rattle.gen1_text.specs.MemberLines.{changed, headed}
-use Rattle.gen1_text.specs.Words.{behind, result_then, pieces_of}
+use Rattle.gen1_text.specs.MemberLines.{changed, headed, behind, result_then, pieces_of}
 use Rattle.gen1_text.specs.declared.fault.MemberFault.{MemberFault}
 use Rattle.gen1_text.specs.declared.fault.MemberFault.TheVariants.{SeventhMember}
 use Rattle.gen1_text.specs.declared.fault.TextFault.{TextFault}

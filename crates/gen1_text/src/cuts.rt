@@ -1,7 +1,7 @@
 //! Parts of a text: its pieces, lines and white space (docs/TEAM_TEXT.md, "Export text", "Packed line").
 ghost use Rattle.std.specs.Prelude.{◌≡◌, ◌≤◌, ◌==◌, length, option_map};
 ghost use Rattle.std.specs.List.{after_first, before_first, position_or_len};
-ghost use Rattle.gen1_text.specs.Words.{has_inside, pieces_of, text_after, trimmed};
+ghost use Rattle.gen1_text.specs.MemberLines.{has_inside, pieces_of, text_after, trimmed};
 
 // The text without the white space around it.
 pub(crate) fn trimmed(text: &[u8]) -> &[u8]
@@ -11,7 +11,7 @@ pub(crate) fn trimmed(text: &[u8]) -> &[u8]
 }
 
 // What follows a key, if the line begins with it.
-#[tactic(auto, unfolding(crate::specs::Words::text_after))]
+#[tactic(auto, unfolding(crate::specs::MemberLines::text_after))]
 pub(crate) fn text_after<'a>(line: &'a [u8], key: &[u8]) -> Option<&'a [u8]>
     ensures { option_map (λ rest. rest.now) result ≡ text_after key.now line.now }
 {
@@ -76,7 +76,7 @@ pub(crate) struct Pieces<'a> {
 }
 
 impl<'a> Pieces<'a> {
-    ghost use Rattle.gen1_text.specs.Words.{pieces_left};
+    ghost use Rattle.gen1_text.specs.MemberLines.{pieces_left};
 
     pub(crate) fn new(text: &'a [u8], separator: u8) -> Self
         ensures { pieces_left result ≡ pieces_of separator text.now }
@@ -97,7 +97,7 @@ pub(crate) fn piece_count(text: &[u8], separator: u8) -> usize
 
 impl<'a> Iterator for Pieces<'a> {
     ghost use Rattle.std.specs.Iterator.{YieldsFirstRef, item_count};
-    ghost use Rattle.gen1_text.specs.Words.{pieces_left};
+    ghost use Rattle.gen1_text.specs.MemberLines.{pieces_left};
 
     type Item = &'a [u8];
 

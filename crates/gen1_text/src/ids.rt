@@ -1,14 +1,14 @@
 //! Species and moves by their names, where only letters and digits count, in either case (docs/TEAM_TEXT.md, "Names").
 ghost use Rattle.std.specs.Prelude.{ℕ, ◌≡◌, ◌≤◌, [], ◌∷◌, MatchOption, bytes_eq, option_map};
 ghost use Rattle.gen1_text.specs.Ids.{id_of, move_called, place_called, species_called};
-ghost use Rattle.gen1_text.specs.Words.{text_after};
+ghost use Rattle.gen1_text.specs.MemberLines.{text_after};
 ghost use Rattle.gen1_tables.specs.Names.{move_name, move_names, species_name};
 
 use gen1_tables::{MoveId, Species};
 
 /// Returns the species that a text names; only letters and digits count, in either case (docs/TEAM_TEXT.md, "Names"). Each species
 /// is found by its own name.
-#[tactic(auto, using(crate::proofs::IdLemmas::species_by_letters, crate::proofs::IdLemmas::species_own))]
+#[tactic(auto, using(crate::proofs::TextLemmas::species_by_letters, crate::proofs::TextLemmas::species_own))]
 pub fn species_called(text: &[u8]) -> Option<Species>
     ensures value { result ≡ species_called text.now }
     ensures letters { result ≡ species_called (id_of text.now) }
@@ -19,7 +19,7 @@ pub fn species_called(text: &[u8]) -> Option<Species>
 
 /// Returns the move that a text names; only letters and digits count, in either case (docs/TEAM_TEXT.md, "Names"). Each move is
 /// found by its own name, and two also by their names in other generations.
-#[tactic(auto, using(crate::proofs::IdLemmas::move_by_letters, crate::proofs::IdLemmas::move_own))]
+#[tactic(auto, using(crate::proofs::TextLemmas::move_by_letters, crate::proofs::TextLemmas::move_own))]
 pub fn move_called(text: &[u8]) -> Option<MoveId>
     ensures value { result ≡ move_called text.now }
     ensures letters { result ≡ move_called (id_of text.now) }
@@ -87,7 +87,7 @@ pub fn has_same_id(name: &[u8], text: &[u8]) -> bool
 }
 
 /// Returns what follows a word, if the text begins with it; only letters and digits count, in either case.
-#[tactic(auto, unfolding(crate::specs::Words::text_after))]
+#[tactic(auto, unfolding(crate::specs::MemberLines::text_after))]
 pub fn rest_after<'a>(word: &[u8], text: &'a [u8]) -> Option<&'a [u8]>
     ensures { option_map (λ rest. id_of rest.now) result ≡ text_after (id_of word.now) (id_of text.now) }
 {

@@ -3,21 +3,15 @@
 //! - `cuts`: parts of a text
 //! - `fault`: why a text is not a team
 //! - `ids`: species and moves by their names
-//! - `member`: a member by its lines
-//! - `numbers`: whole numbers in a text
-//! - `packed`: teams from packed lines
-//! - `packed_field`: the fields of a member in a packed line
-//! - `spread`: EVs and IVs
-//! - `text`: teams from the export text
+//! - `packed`: teams from packed lines, and the fields of a member in one
+//! - `spread`: EVs and IVs, and whole numbers in a text
+//! - `text`: teams from the export text, and a member by its lines
 #![tactic(auto)]
 
 mod cuts;
 mod fault;
 mod ids;
-mod member;
-mod numbers;
 mod packed;
-mod packed_field;
 mod spread;
 mod text;
 

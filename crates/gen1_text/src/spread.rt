@@ -1,11 +1,10 @@
-//! EVs and IVs (docs/TEAM_TEXT.md, "EVs and experience", "IVs and DVs").
-ghost use Rattle.std.specs.Prelude.{◌≡◌, ◌<◌, bytes_eq, IfSome};
-ghost use Rattle.gen1_text.specs.Spreads.{dvs_of_ivs, exp_of_evs, experience, nothing_said, part_of, stat_named, with_parts};
-ghost use Rattle.gen1_text.specs.Words.{pieces_of};
+//! EVs and IVs, and whole numbers in a text (docs/TEAM_TEXT.md, "EVs and experience", "IVs and DVs", "Export text",
+//! "Packed line").
+ghost use Rattle.std.specs.Prelude.{IfSome, bytes_eq, ◌<◌, ◌≡◌};
+ghost use Rattle.gen1_text.specs.MemberLines.{dvs_of_ivs, exp_of_evs, experience, nothing_said, part_of, stat_named, with_parts, number_of, pieces_of};
 
 use crate::cuts::{Pieces, text_before, text_behind};
 use crate::fault::MemberFault;
-use crate::numbers::number_in;
 
 // The numbers of HP, Atk, Def, SpA, SpD and Spe, if given.
 pub(crate) type Spread = [Option<u8>; 6];
@@ -24,7 +23,7 @@ pub(crate) fn spread_in(text: &[u8], most: u8) -> Option<Spread>
 }
 
 // What a part says: a stat, and its number.
-#[tactic(auto, unfolding(crate::specs::Spreads::part_of))]
+#[tactic(auto, unfolding(crate::specs::MemberLines::part_of))]
 fn part_in(part: &[u8], most: u8) -> Option<(usize, u8)>
     ensures value { result ≡ part_of most part.now }
     ensures bound { IfSome result (λ said. said.0 < 6) }
@@ -35,7 +34,7 @@ fn part_in(part: &[u8], most: u8) -> Option<(usize, u8)>
 }
 
 // The place of a stat in a spread.
-#[tactic(auto, unfolding(crate::specs::Spreads::stat_named))]
+#[tactic(auto, unfolding(crate::specs::MemberLines::stat_named))]
 fn stat_named(name: &[u8]) -> Option<usize>
     ensures value { result ≡ stat_named name.now }
     ensures bound { IfSome result (λ stat. stat < 6) }
@@ -64,7 +63,7 @@ pub(crate) fn is_text(text: &[u8], other: &[u8]) -> bool
 }
 
 // The experience of HP, Attack, Defense, Speed and Special: each the square of its EV.
-#[tactic(auto, unfolding(crate::specs::Spreads::exp_of_evs))]
+#[tactic(auto, unfolding(crate::specs::MemberLines::exp_of_evs))]
 pub(crate) fn exp_of_evs(evs: Spread) -> Result<[u16; 5], MemberFault>
     ensures { result ≡ exp_of_evs evs }
 {
@@ -89,7 +88,7 @@ fn square(ev: u8) -> u16
 }
 
 // The DVs of Attack, Defense, Speed and Special: each half its IV.
-#[tactic(auto, unfolding(crate::specs::Spreads::dvs_of_ivs))]
+#[tactic(auto, unfolding(crate::specs::MemberLines::dvs_of_ivs))]
 pub(crate) fn dvs_of_ivs(ivs: Spread) -> Result<[u8; 4], MemberFault>
     ensures { result ≡ dvs_of_ivs ivs }
 {
@@ -109,4 +108,25 @@ pub(crate) fn dvs_of_ivs(ivs: Spread) -> Result<[u8; 4], MemberFault>
         return Err(MemberFault::HpIv);
     }
     Ok(dvs)
+}
+
+// The whole number that a text represents, if it is at most `most`.
+pub(crate) fn number_in(text: &[u8], most: u8) -> Option<u8>
+    ensures { result ≡ number_of most text.now }
+{
+    if text.is_empty() {
+        return None;
+    }
+    let most = u32::from(most);
+    let mut number = 0;
+    for digit in text {
+        if !digit.is_ascii_digit() {
+            return None;
+        }
+        number = number * 10 + u32::from(*digit - b'0');
+        if number > most {
+            return None;
+        }
+    }
+    Some(number as u8)
 }

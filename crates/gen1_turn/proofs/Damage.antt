@@ -5,7 +5,7 @@ use Rattle.std.proofs.lemmas.Bool.{false≢true}
 use Rattle.gen1_layout.proofs.Words.{Bool, Event, Field, List, None, Option, Phase, Progress, Side, Some, Who, [], ap, arith, choose, choose-false, choose-true, conditions_in, draw, false, given, inl, inr, member_in, nat_lt, nat_tests, note, on_conditions, on_field, refl, set_last_damage, stay, stop, subst, sym, then-goes, true, with_last_damage, ℕ, ◌∙◌, ◌▸◌}
 use Rattle.gen1_tables.specs.declared.effect.Effect.{Effect}
 use Rattle.gen1_tables.specs.declared.effect.Effect.TheVariants as effects
-use Rattle.gen1_tables.specs.declared.element.Element.TheVariants as elements
+use Rattle.gen1_tables.specs.declared.types.Element.TheVariants as elements
 use Rattle.gen1_tables.specs.Moves.{MoveRow, move_row, move_rows}
 use Rattle.gen1_rolls.specs.Streams.{limit_of, byte_at}
 use Rattle.gen1_stats.specs.Members.{Member, is_living}
@@ -33,10 +33,9 @@ use Rattle.gen1_machine.specs.Sides.{other}
 use Rattle.gen1_machine.specs.State.{Terms, active_in, changed_member, health_in, hurt_by, party, who_in, with_member, with_party}
 use Rattle.gen1_machine.proofs.Sound.{planned-sound}
 use Rattle.gen1_hits.specs.Planned.{Follows}
-use Rattle.gen1_turn.specs.Action.{late_part}
-use Rattle.gen1_turn.specs.declared.action.damage.Way.{Way}
-use Rattle.gen1_turn.specs.declared.action.damage.Way.TheVariants as ways
-use Rattle.gen1_turn.specs.Damage.{AlikeDamage, LikeDamage, LikeUsual, cuts, edge_of, limit_in, way_of}
+use Rattle.gen1_turn.specs.Action.{late_part, AlikeDamage, LikeDamage, LikeUsual, cuts, edge_of, limit_in, way_of}
+use Rattle.gen1_turn.specs.declared.action.Way.{Way}
+use Rattle.gen1_turn.specs.declared.action.Way.TheVariants as ways
 
 -- By the effect of the move
 

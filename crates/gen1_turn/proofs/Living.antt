@@ -6,9 +6,9 @@ use Rattle.std.proofs.lemmas.Bool.Decides.{eqb_tells}
 use Rattle.gen1_layout.proofs.Words.{Active, Bool, Field, Progress, Side, ap, changed_active, false, inl, inr, length, on_active, on_conditions, on_field, party, refl, subst, sym, true, ℕ, ◌∙◌}
 use Rattle.gen1_rolls.specs.Streams.{Stream}
 use Rattle.gen1_stats.specs.Members.{is_living, nobody, IsBetween, Member}
-use Rattle.gen1_machine.specs.declared.choice.Choice.{Choice}
-use Rattle.gen1_machine.specs.declared.choice.Choice.TheVariants as choices
-use Rattle.gen1_machine.specs.declared.picks.Pick.{Pick}
+use Rattle.gen1_machine.specs.declared.side.Choice.{Choice}
+use Rattle.gen1_machine.specs.declared.side.Choice.TheVariants as choices
+use Rattle.gen1_machine.specs.declared.side.Pick.{Pick}
 use Rattle.gen1_machine.specs.declared.side.Side.TheVariants.{One, Two}
 use Rattle.gen1_machine.specs.declared.terms.Outcome.{Outcome}
 use Rattle.gen1_machine.specs.declared.terms.Outcome.TheVariants.{Ongoing}
@@ -35,9 +35,9 @@ use Rattle.gen1_machine.proofs.Settled.{outcome-stays}
 use Rattle.gen1_machine.proofs.Steady.{residual-steady, with_penalty_of-leaves, Hurts, Steady}
 use Rattle.gen1_machine.proofs.ValidSteps.{room-free, sends-room}
 use Rattle.gen1_status.specs.Statuses.{takes_hp}
-use Rattle.gen1_switching.specs.Updates.{Plays}
+use Rattle.gen1_switching.specs.SwitchingIn.{Plays}
 use Rattle.gen1_switching.proofs.Stepped.{both_move, comes_offered, offered_by}
-use Rattle.gen1_turn.specs.TurnParts.{Brings, MayCome}
+use Rattle.gen1_turn.specs.TwoParts.{Brings, MayCome}
 
 -- A member has fallen, or the battle is over
 

@@ -5,12 +5,12 @@ use Rattle.std.proofs.lemmas.Bool.{false≢true}
 use Rattle.gen1_layout.proofs.Words.{Bool, Field, None, Option, Progress, Side, Some, ap, changed_active, choose-false, choose-true, false, on_active, on_conditions, on_field, refl, stay, subst, sym, then-goes, true, ℕ, ◌∙◌, ◌▸◌}
 use Rattle.gen1_tables.specs.declared.effect.Effect.TheVariants as effects
 use Rattle.gen1_rolls.specs.Streams.{Stream}
-use Rattle.gen1_stats.specs.declared.status.Status.{Status}
-use Rattle.gen1_stats.specs.declared.status.Status.TheVariants.{Burned, Poisoned}
+use Rattle.gen1_stats.specs.declared.member.Status.{Status}
+use Rattle.gen1_stats.specs.declared.member.Status.TheVariants.{Burned, Poisoned}
 use Rattle.gen1_stats.specs.Members.{Member}
 use Rattle.gen1_machine.specs.declared.event.DamageSource.{DamageSource}
 use Rattle.gen1_machine.specs.declared.side.Side.TheVariants.{One, Two}
-use Rattle.gen1_machine.specs.declared.picks.UsedMove.TheVariants.{Nothing}
+use Rattle.gen1_machine.specs.declared.side.UsedMove.TheVariants.{Nothing}
 use Rattle.gen1_machine.specs.Conditions.{nothing_underway, with_worse_poison, without_trapping, ActiveConditions, Underway}
 use Rattle.gen1_machine.specs.Sides.{other}
 use Rattle.gen1_machine.specs.State.{changed_conditions, changed_member, member_at, member_in, party, underway_in, Terms}

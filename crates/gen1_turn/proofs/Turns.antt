@@ -4,9 +4,9 @@ use Rattle.std.proofs.lemmas.Bool.{false≢true}
 use Rattle.gen1_layout.proofs.Words.{Shows, ShowsDrawn, active_in, ap, choose-false, choose-true, draw, drawn_goes, given, goes, if_not, if_so, length, member_in, nat_lt, on_active, on_conditions, on_field, stay, stays, still, subst, sym, then-goes, true, ℕ, ◌∙◌, ◌▸◌, Active, Field, IsBetween, List, Member, None, Some, changed_member, nat_le, nobody}
 use Rattle.gen1_rolls.specs.Draws.{Drawing, Source, Ref, Since}
 use Rattle.gen1_rolls.specs.Streams.{byte_at}
-use Rattle.gen1_machine.specs.declared.choice.Choice.{Choice}
-use Rattle.gen1_machine.specs.declared.picks.Pick.{Pick}
-use Rattle.gen1_machine.specs.declared.picks.Pick.TheVariants.{Continue, Held, Idle, Use}
+use Rattle.gen1_machine.specs.declared.side.Choice.{Choice}
+use Rattle.gen1_machine.specs.declared.side.Pick.{Pick}
+use Rattle.gen1_machine.specs.declared.side.Pick.TheVariants.{Continue, Held, Idle, Use}
 use Rattle.gen1_machine.specs.declared.side.Side.TheVariants.{One, Two}
 use Rattle.gen1_machine.specs.Conditions.{ActiveConditions, without_flinch, without_trapping}
 use Rattle.gen1_machine.specs.State.{changed_active, changed_conditions, with_picked_move, Terms, with_current_move, is_over}
@@ -28,7 +28,7 @@ use Rattle.gen1_layout.specs.Operations.{Does, between, scene}
 use Rattle.gen1_hits.specs.declared.known.Known.{Known}
 use Rattle.gen1_hits.specs.Knowing.{begun, knowing, with_broke, ShowsOver, ShowsKnown}
 use Rattle.gen1_hits.specs.Planned.{Follows}
-use Rattle.gen1_turn.specs.TurnParts.{suffering, Ends, EndsCut, LeavesRest, PartLeaves, ActsAndSuffers, DoesTurn}
+use Rattle.gen1_turn.specs.TwoParts.{suffering, Ends, EndsCut, LeavesRest, PartLeaves, ActsAndSuffers, DoesTurn}
 use Rattle.gen1_machine.specs.declared.side.Side.{Side}
 use Rattle.gen1_layout.specs.Parts.{Parts}
 use Rattle.gen1_layout.specs.Shows.{Frame, Telling}
@@ -39,7 +39,7 @@ use Rattle.gen1_status.proofs.Statuses.{at_most}
 use Rattle.gen1_status.specs.declared.gate_answer.Gate.{Gate}
 use Rattle.gen1_status.specs.declared.gate_answer.Gate.TheVariants.{Fault, Go, Stop}
 use Rattle.gen1_status.specs.Gate.{TellsDrawn, stopped_by}
-use Rattle.gen1_machine.specs.declared.choice.Choice.TheVariants as choices
+use Rattle.gen1_machine.specs.declared.side.Choice.TheVariants as choices
 
 -- Residual damage, and whether the turn is cut after it
 

@@ -6,7 +6,7 @@ use Rattle.gen1_rolls.specs.Draws.{Drawing, Source}
 use Rattle.gen1_tables.specs.declared.effect.Effect.{Effect}
 use Rattle.gen1_tables.specs.declared.effect.Effect.TheVariants as effects
 use Rattle.gen1_machine.specs.declared.event.Volatile.TheVariants as volatiles
-use Rattle.gen1_machine.specs.declared.picks.Pick.{Pick}
+use Rattle.gen1_machine.specs.declared.side.Pick.{Pick}
 use Rattle.gen1_machine.specs.Action.{act, action_parts, begin, damage_of, keep_accuracy, keeps_going, resume, see_if_going_on, set_going_on, usual_damage}
 use Rattle.gen1_machine.specs.Conditions.{Storing, energy_with, without_bide}
 use Rattle.gen1_machine.specs.Damage.{set_through_types}
@@ -24,10 +24,9 @@ use Rattle.gen1_hits.specs.declared.known.Known.{Known}
 use Rattle.gen1_hits.specs.Knowing.{ShowsKnown, ShowsOver, action_of}
 use Rattle.gen1_hits.specs.DamageNumbers.{has_own_damage, has_usual_damage}
 use Rattle.gen1_hits.proofs.Knowledge.{stops-then}
-use Rattle.gen1_turn.specs.declared.action.damage.Way.TheVariants as ways
+use Rattle.gen1_turn.specs.declared.action.Way.TheVariants as ways
 use Rattle.gen1_turn.specs.declared.action.two_parts.Roll.{Roll}
-use Rattle.gen1_turn.specs.Action.{late_part}
-use Rattle.gen1_turn.specs.Damage.{LikeDamage, way_of}
+use Rattle.gen1_turn.specs.Action.{late_part, LikeDamage, way_of}
 use Rattle.gen1_turn.specs.TwoParts.{IsFresh, from_roll, from_test, known_at}
 use Rattle.gen1_turn.proofs.Damage.{damage-by, late-power}
 

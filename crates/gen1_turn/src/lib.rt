@@ -1,18 +1,11 @@
 //! An action and a turn over the bytes of a battle (docs/MECHANICS.md, "Action", "Order of a turn").
 //!
 //! - `turn_update`: the update of a turn
-//!   - `choices`: a turn, by both choices
-//!   - `order`: who acts first
-//!   - `parts`: the parts of a turn, with residual damage
-//!   - `two_parts`: an action in two parts, with residual damage
-//!   - `by_side`: a generator for the action of each side
-//! - `action`: one side's action
-//!   - `taken_move`: the move that an action takes
-//!   - `steps`: the steps of an action after its move is settled
-//!   - `lead_up`: what comes before any damage
-//!   - `used_move`: a used move, and its PP
-//!   - `damage`: the damage of an action
-//!   - `strike`: a move that hits or misses
+//!   - `choices`: a turn, by both choices, and who acts first
+//!   - `parts`: the parts of a turn, with residual damage; an action in two parts; a generator for the action of each side
+//! - `action`: one side's action, and its damage
+//!   - `lead_up`: the move that an action takes, its use, and what comes before any damage
+//!   - `steps`: the steps of an action after its move is settled, up to a hit or a miss
 //!   - `two_parts`: an action up to the roll of its damage, and from the roll on
 #![tactic(auto)]
 

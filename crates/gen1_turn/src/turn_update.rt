@@ -11,26 +11,21 @@ ghost use Rattle.gen1_machine.specs.Ruling.{ruling_of};
 ghost use Rattle.gen1_machine.specs.Turn.{is_cut, turn};
 ghost use Rattle.gen1_machine.specs.Step.{close_update};
 ghost use Rattle.gen1_layout.specs.Shows.{Stands, setting_of};
-ghost use Rattle.gen1_switching.specs.Updates.{Plays, UpdatesDrawing, drawing_on};
+ghost use Rattle.gen1_switching.specs.SwitchingIn.{Plays, UpdatesDrawing, drawing_on};
 
-mod by_side;
 mod choices;
-mod order;
 mod parts;
-mod two_parts;
 
-use by_side::BySide;
 use choices::take_turn;
-pub use choices::{end_flinch, set_picked};
+pub use choices::{end_flinch, first_side, set_picked};
 use gen1_events::EventSink;
 use gen1_hits::Known;
 use gen1_layout::Packed;
 use gen1_machine::{Choice, Side};
 use gen1_rolls::Rolls;
 use gen1_switching::{close, close_uncut};
-pub use order::first_side;
-pub use parts::{act_and_suffer_as, end_turn};
-pub use two_parts::{act_after_test, act_to_roll};
+use parts::BySide;
+pub use parts::{act_after_test, act_and_suffer_as, act_to_roll, end_turn};
 
 /// Plays a turn of a battle that asks for moves, by an offered choice of each side (docs/MECHANICS.md, "Order of a
 /// turn", "Falls and requests").

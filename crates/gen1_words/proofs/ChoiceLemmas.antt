@@ -7,8 +7,8 @@ use Rattle.gen1_machine.specs.OfferedChoices.{offered, offered_for}
 use Rattle.gen1_machine.specs.State.{Field, State, is_over, request_of}
 use Rattle.gen1_machine.specs.Step.{is_among}
 use Rattle.gen1_machine.specs.Valid.{IsStarted, IsUnstarted}
-use Rattle.gen1_machine.specs.declared.choice.Choice.{Choice}
-use Rattle.gen1_machine.specs.declared.choice.Choice.TheVariants.{Move, Pass, Switch}
+use Rattle.gen1_machine.specs.declared.side.Choice.{Choice}
+use Rattle.gen1_machine.specs.declared.side.Choice.TheVariants.{Move, Pass, Switch}
 use Rattle.gen1_machine.specs.declared.side.Side.{Side}
 use Rattle.gen1_machine.specs.declared.terms.Outcome.{Outcome}
 use Rattle.gen1_machine.specs.declared.terms.Outcome.TheVariants as outcomes
@@ -17,8 +17,8 @@ use Rattle.gen1_machine.specs.declared.terms.Request.TheVariants as requests
 use Rattle.gen1_offers.proofs.OfferedSet.{asks_nothing}
 use Rattle.gen1_text.specs.Ids.{move_called, species_called}
 use Rattle.gen1_words.specs.ChoiceWords.{choice_of, fits, if_offered, only, place_said, slot_said}
-use Rattle.gen1_words.specs.declared.chosen.WordsFault.{WordsFault}
-use Rattle.gen1_words.specs.declared.chosen.WordsFault.TheVariants.{NotOffered}
+use Rattle.gen1_words.specs.declared.words.WordsFault.{WordsFault}
+use Rattle.gen1_words.specs.declared.words.WordsFault.TheVariants.{NotOffered}
 use Rattle.gen1_words.specs.declared.words.ChoiceWords.{ChoiceWords}
 use Rattle.gen1_words.specs.declared.words.ChoiceWords.TheVariants.{Exactly, MoveCalled, PlaceCalled, SlotCalled, SwitchTo}
 

@@ -4,14 +4,14 @@ use Rattle.std.specs.Option.{option_map_or}
 use Rattle.gen1_machine.specs.OfferedChoices.{offered}
 use Rattle.gen1_machine.specs.State.{Field, known_in, member_at, member_in, party}
 use Rattle.gen1_machine.specs.Step.{is_among}
-use Rattle.gen1_machine.specs.declared.choice.Choice.{Choice}
-use Rattle.gen1_machine.specs.declared.choice.Choice.TheVariants.{Move, Pass, Switch}
+use Rattle.gen1_machine.specs.declared.side.Choice.{Choice}
+use Rattle.gen1_machine.specs.declared.side.Choice.TheVariants.{Move, Pass, Switch}
 use Rattle.gen1_machine.specs.declared.side.Side.{Side}
 use Rattle.gen1_tables.specs.Types.{any}
 use Rattle.gen1_text.specs.Ids.{id_of, move_called, species_called}
-use Rattle.gen1_text.specs.Words.{text_after}
-use Rattle.gen1_words.specs.declared.chosen.WordsFault.{WordsFault}
-use Rattle.gen1_words.specs.declared.chosen.WordsFault.TheVariants.{Ambiguous, NotOffered, Unknown}
+use Rattle.gen1_text.specs.MemberLines.{text_after}
+use Rattle.gen1_words.specs.declared.words.WordsFault.{WordsFault}
+use Rattle.gen1_words.specs.declared.words.WordsFault.TheVariants.{Ambiguous, NotOffered, Unknown}
 use Rattle.gen1_words.specs.declared.words.ChoiceWords.{ChoiceWords}
 use Rattle.gen1_words.specs.declared.words.ChoiceWords.TheVariants.{Exactly, MoveCalled, PlaceCalled, SlotCalled, SwitchTo}
 

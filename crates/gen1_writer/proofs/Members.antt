@@ -7,25 +7,22 @@ use Rattle.std.proofs.lemmas.Bool.{eqb-true, ltb-false, ltb-true, or_parts}
 use Rattle.std.proofs.lemmas.List.Elements.{All-head, All-tail}
 use Rattle.gen1_stats.specs.Teams.{Sheet, dv, known_of, member_of, team_of, team_refusal, first_failed, first_refusal, member_refusal, tests}
 use Rattle.gen1_tables.specs.Names.{move_name, species_name}
-use Rattle.gen1_text.specs.MemberLines.{changed, fresh, headed}
-use Rattle.gen1_text.specs.Words.{behind, result_then, pieces_of}
-use Rattle.gen1_text.specs.Spreads.{dvs_of_ivs, nothing_said}
+use Rattle.gen1_text.specs.MemberLines.{changed, fresh, headed, behind, result_then, pieces_of, dvs_of_ivs, nothing_said}
 use Rattle.gen1_text.specs.Texts.{at_line, parts_members, told}
 use Rattle.gen1_text.specs.declared.fault.MemberFault.{MemberFault}
 use Rattle.gen1_text.specs.declared.fault.MemberFault.TheVariants.{SeventhMember}
 use Rattle.gen1_text.specs.declared.fault.TextFault.TheVariants.{Line}
-use Rattle.gen1_writer.specs.Export.{block, ended, ev_line, ev_lines, iv_lines, iv_parts, level_lines, lines_of, move_line, HasDvs, ev, ev_at, evs_of, ivs_of}
-use Rattle.gen1_writer.specs.Written.{as_read, has_other_ups, other_ups_from, write_refusal}
+use Rattle.gen1_writer.specs.Export.{block, ended, ev_line, ev_lines, iv_lines, iv_parts, level_lines, lines_of, move_line, HasDvs, ev, ev_at, evs_of, ivs_of, as_read, has_other_ups, other_ups_from, write_refusal}
 use Rattle.gen1_writer.proofs.Parts.{AreLines, ended-append}
 use Rattle.gen1_writer.proofs.Spread.{evs_read, head_begins, head_line, head_read, ivs_read, level_line_is, level_read, move_line_is, move_read, IvsRead, evs_back, ivs_back}
 use Rattle.std.specs.Option.{option_or}
 use Rattle.std.proofs.lemmas.List.{length-map}
-use Rattle.gen1_stats.specs.declared.known_move.KnownMove.{KnownMove}
-use Rattle.gen1_stats.specs.declared.refusal.TeamRefusal.{TeamRefusal}
+use Rattle.gen1_stats.specs.declared.member.KnownMove.{KnownMove}
+use Rattle.gen1_stats.specs.declared.team.TeamRefusal.{TeamRefusal}
 use Rattle.gen1_stats.specs.Members.{IsBetween, IsFresh, IsTeam}
-use Rattle.gen1_writer.specs.declared.fault.WriteFault.{WriteFault}
-use Rattle.gen1_writer.specs.declared.fault.WriteFault.TheVariants.{PpUps, Team}
-use Rattle.gen1_stats.specs.declared.refusal.TeamRefusal.TheVariants.{Dv, Empty, Level, TooMany}
+use Rattle.gen1_writer.specs.declared.written.WriteFault.{WriteFault}
+use Rattle.gen1_writer.specs.declared.written.WriteFault.TheVariants.{PpUps, Team}
+use Rattle.gen1_stats.specs.declared.team.TeamRefusal.TheVariants.{Dv, Empty, Level, TooMany}
 
 -- a line that makes one member of another
 pub record Step (line : List ℕ) (s t : Sheet) : Type 0 where

@@ -12,21 +12,18 @@ use Rattle.std.proofs.lemmas.Slice.Eq.{bytes_eq-Decides}
 use Rattle.gen1_stats.specs.Members.{Member}
 use Rattle.gen1_stats.specs.Teams.{Sheet, dv, team_of, team_refusal}
 use Rattle.gen1_stats.specs.Stats.{hp_dv}
-use Rattle.gen1_stats.specs.declared.refusal.TeamRefusal.{TeamRefusal}
+use Rattle.gen1_stats.specs.declared.team.TeamRefusal.{TeamRefusal}
 use Rattle.gen1_tables.specs.Names.{move_name, move_names, name_at, species_name, species_names}
 use Rattle.gen1_text.specs.Ids.{id_of, move_called}
-use Rattle.gen1_text.specs.MemberLines.{fresh, named, with_level, with_move}
+use Rattle.gen1_text.specs.MemberLines.{fresh, named, with_level, with_move, behind, result_then, number_of, pieces_of, trimmed, trimmed_end, Spread, dvs_of_ivs, exp_of_evs, nothing_said}
 use Rattle.gen1_text.specs.Packed.{all_unpacked, in_field, members_packed, team_packed, team_unpacked, then_field, unpacked, each_number, field, number_if_any, six_numbers, species_field, with_moves, with_packed_evs, with_packed_ivs, with_packed_level, without_item}
-use Rattle.gen1_text.specs.Words.{behind, result_then, number_of, pieces_of, trimmed, trimmed_end}
-use Rattle.gen1_text.specs.Spreads.{Spread, dvs_of_ivs, exp_of_evs, nothing_said}
 use Rattle.gen1_text.specs.declared.fault.MemberFault.{MemberFault}
 use Rattle.gen1_text.specs.declared.fault.MemberFault.TheVariants.{FifthMove, Move, Species}
 use Rattle.gen1_text.specs.declared.fault.PackedFault.{PackedFault}
 use Rattle.gen1_text.specs.declared.fault.PackedFault.TheVariants.{Fields, Team}
-use Rattle.gen1_text.proofs.IdLemmas.{move_by_letters, move_own, species_own}
+use Rattle.gen1_text.proofs.TextLemmas.{move_by_letters, move_own, species_own}
 use Rattle.gen1_text.proofs.PackedLemmas.{all-end, all-made, moves_end, moves_go, moves_skip}
-use Rattle.gen1_writer.specs.Export.{HasDvs, ev, ev_at, evs_of, iv, ivs_of, iv_place, packed_evs, packed_ivs, packed_level, packed_member, packed_moves, packed_of, six}
-use Rattle.gen1_writer.specs.Written.{as_read}
+use Rattle.gen1_writer.specs.Export.{HasDvs, ev, ev_at, evs_of, iv, ivs_of, iv_place, packed_evs, packed_ivs, packed_level, packed_member, packed_moves, packed_of, six, as_read}
 use Rattle.gen1_writer.proofs.Parts.{each, three, three_is, said, pieces_join, begins, ends, ends-append, lacks, lacks-append, last_of, one_piece, start_stays, whole}
 use Rattle.gen1_writer.proofs.Members.{IsMove, IsWritable}
 use Rattle.gen1_writer.proofs.ReadBack.{team_allowed, team_read}

@@ -4,7 +4,7 @@ use Rattle.std.specs.Prelude.{decimal, codes, max, slice_index_or, slice_set}
 use Rattle.std.specs.Char.{is_ascii_whitespace, is_ascii_alphanumeric, to_ascii_lowercase}
 use Rattle.std.specs.List.{onto_first, prefix_len, slice_split, suffix_len, range_with_len, join_with_byte}
 use Rattle.std.proofs.lemmas.List.Sums.{suffix_len_is}
-use Rattle.gen1_text.specs.Words.{pieces_of, trimmed, trimmed_end, trimmed_start, number_of}
+use Rattle.gen1_text.specs.MemberLines.{pieces_of, trimmed, trimmed_end, trimmed_start, number_of, Spread, part_of, stat_named, with_parts}
 use Rattle.std.proofs.lemmas.List.FromFn.{get_or-range_with_len, length-range_with_len}
 use Rattle.gen1_tables.proofs.Named.{agree_at}
 use Rattle.std.proofs.lemmas.Bool.{ltb-false, ltb-true}
@@ -17,7 +17,6 @@ use Rattle.gen1_text.specs.Ids.{id_of}
 use Rattle.std.proofs.lemmas.List.{map-append}
 use Rattle.std.proofs.lemmas.List.Splits.{length-slice_split}
 use Rattle.gen1_stats.proofs.Ranges.{map-take_more}
-use Rattle.gen1_text.specs.Spreads.{Spread, part_of, stat_named, with_parts}
 use Rattle.gen1_text.proofs.TextLemmas.{parts_go}
 
 -- Texts that are a single line as they are: without a line feed, and without white space at either end.

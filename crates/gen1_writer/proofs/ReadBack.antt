@@ -11,14 +11,13 @@ use Rattle.gen1_stats.proofs.Roots.{root-is, root_unique}
 use Rattle.gen1_stats.specs.Members.{Member}
 use Rattle.gen1_stats.specs.Teams.{Sheet, dv, first_failed, first_refusal, member_of, member_refusal, team_of, team_refusal, tests}
 use Rattle.gen1_stats.specs.Stats.{root}
-use Rattle.gen1_stats.specs.declared.refusal.TeamRefusal.{TeamRefusal}
-use Rattle.gen1_stats.specs.declared.refusal.TeamRefusal.TheVariants.{Dv, Empty, Level, TooMany}
-use Rattle.gen1_text.specs.Words.{behind, pieces_of, trimmed}
+use Rattle.gen1_stats.specs.declared.team.TeamRefusal.{TeamRefusal}
+use Rattle.gen1_stats.specs.declared.team.TeamRefusal.TheVariants.{Dv, Empty, Level, TooMany}
+use Rattle.gen1_text.specs.MemberLines.{behind, pieces_of, trimmed}
 use Rattle.gen1_text.specs.Texts.{members_told, team_made, team_told, told}
 use Rattle.gen1_text.specs.declared.fault.TextFault.{TextFault}
 use Rattle.gen1_text.specs.declared.fault.TextFault.TheVariants.{Team}
-use Rattle.gen1_writer.specs.Export.{block, ended, lines_of, text_of, HasDvs, ev}
-use Rattle.gen1_writer.specs.Written.{as_read}
+use Rattle.gen1_writer.specs.Export.{block, ended, lines_of, text_of, HasDvs, ev, as_read}
 use Rattle.gen1_writer.proofs.Members.{dvs_pass, neither, none_refused, IsWritable, block_is, member_lines, told_member}
 use Rattle.gen1_writer.proofs.Parts.{lines_back, pieces_join}
 

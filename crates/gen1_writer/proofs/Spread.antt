@@ -4,19 +4,16 @@ use Rattle.std.specs.Prelude.{codes, unwrap_or, decimal}
 use Rattle.std.specs.Option.{ok_or}
 use Rattle.std.proofs.lemmas.Bool.Decides.{nat_tests}
 use Rattle.gen1_stats.specs.Stats.{hp_dv}
-use Rattle.gen1_text.specs.Words.{result_then, pieces_of, has_inside, number_of, text_after, trimmed}
-use Rattle.gen1_text.specs.Spreads.{Spread, dvs_of_ivs, exp_of_evs, nothing_said, with_parts}
+use Rattle.gen1_text.specs.MemberLines.{result_then, pieces_of, has_inside, number_of, text_after, trimmed, Spread, dvs_of_ivs, exp_of_evs, nothing_said, with_parts, changed, fresh, headed, named, species_text, with_evs, with_ivs, with_level, with_move, without_gender}
 use Rattle.gen1_text.specs.declared.fault.MemberFault.{MemberFault}
 use Rattle.gen1_text.specs.declared.fault.MemberFault.TheVariants.{Evs, HpIv, Ivs, SpecialEvs, SpecialIvs, FifthMove, Item, Level, Move, Species}
-use Rattle.gen1_text.proofs.TextLemmas.{parts_end}
+use Rattle.gen1_text.proofs.TextLemmas.{parts_end, move_by_letters, move_own, species_own}
 use Rattle.gen1_writer.specs.Export.{ev_line, iv_part, iv_parts, part, iv}
 use Rattle.gen1_writer.proofs.Parts.{each, IsPart, Lists, ev_atk, ev_def, ev_hp, ev_spa, ev_spd, ev_spe, goes_end, goes_on, iv_atk, iv_def, iv_hp, iv_listed, iv_spa, iv_spd, iv_spe, lists_end, lists_iv, said, says, says_iv, ends-append, lacks, lacks-append, one_piece, three, three_is}
 use Rattle.gen1_stats.specs.Teams.{Sheet}
 use Rattle.gen1_tables.specs.Names.{move_name, move_names, name_at, species_name, species_names}
 use Rattle.gen1_text.specs.Ids.{move_called}
-use Rattle.gen1_text.specs.MemberLines.{changed, fresh, headed, named, species_text, with_evs, with_ivs, with_level, with_move, without_gender}
 use Rattle.gen1_text.specs.Texts.{parts_members}
-use Rattle.gen1_text.proofs.IdLemmas.{move_by_letters, move_own, species_own}
 
 pub same : (n : ℕ) → (n == n) ≡ true
 same n = grind (arith, nat_tests)

@@ -3,8 +3,7 @@ ghost use Rattle.std.specs.Prelude.{All, length, map, ◌++◌, ◌+◌, ◌≡�
 ghost use Rattle.arrayvec.specs.ArrayVec.{array_vec_len};
 ghost use Rattle.gen1_writer.specs.Export.{HasDvs, block, ended, ev_lines, iv_lines, iv_part, iv_parts, level_lines, move_line, part, text_of};
 
-use crate::bytes::{add, add_next, add_number};
-use crate::numbers::{are_all, evs_of, ivs_of};
+use crate::numbers::{add, add_next, add_number, are_all, evs_of, ivs_of};
 use arrayvec::ArrayVec;
 use gen1_stats::MemberSpec;
 use gen1_tables::MoveId;

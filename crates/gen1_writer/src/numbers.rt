@@ -1,9 +1,13 @@
-//! EVs and IVs as they are written (docs/TEAM_TEXT.md, "EVs and experience", "IVs and DVs").
-ghost use Rattle.std.specs.Prelude.{◌==◌, ◌≡◌, ◌≤◌};
+//! Numbers and bytes that are put together: EVs and IVs as they are written (docs/TEAM_TEXT.md, "EVs and experience",
+//! "IVs and DVs", "Writing").
+ghost use Rattle.std.specs.Prelude.{[], decimal, length, ◌++◌, ◌+◌, ◌==◌, ◌∷◌, ◌≡◌, ◌≤◌};
 ghost use Rattle.std.specs.List.{list_all};
 ghost use Rattle.gen1_writer.specs.Export.{HasDvs, ev, evs_of, iv, ivs_of};
+ghost use Rattle.arrayvec.specs.ArrayVec.{array_vec_len};
 
+use arrayvec::ArrayVec;
 use gen1_stats::MemberSpec;
+use itoa::Buffer;
 
 // The EVs of HP, Atk, Def, SpA, SpD and Spe.
 pub(crate) fn evs_of(spec: &MemberSpec) -> [u8; 6]
@@ -61,4 +65,43 @@ pub(crate) fn are_all(numbers: &[u8; 6], number: u8) -> bool
     ensures { result ≡ list_all (λ n. n == number) numbers.now }
 {
     numbers.iter().all(|n| *n == number)
+}
+
+// Appends bytes. There must be room.
+pub(crate) fn add<const SIZE: usize>(more: &[u8], text: &mut ArrayVec<u8, SIZE>)
+    requires { array_vec_len text.old + length more.now ≤ SIZE }
+    ensures items { text.new.items ≡ text.old.items ++ more.now }
+    ensures len { array_vec_len text.new ≡ array_vec_len text.old + length more.now }
+{
+    let _fits = text.try_extend_from_slice(more);
+}
+
+// Appends the digits of a number. There must be room for three.
+pub(crate) fn add_number<const SIZE: usize>(number: u8, text: &mut ArrayVec<u8, SIZE>)
+    requires { array_vec_len text.old + 3 ≤ SIZE }
+    ensures items { text.new.items ≡ text.old.items ++ decimal number }
+    ensures len { array_vec_len text.new ≤ array_vec_len text.old + 3 }
+{
+    let mut digits = Buffer::new();
+    add(digits.format(number).as_bytes(), text);
+}
+
+// Appends a part, after a separator if it is not the first. There must be room for both.
+pub(crate) fn add_next<const SIZE: usize>(
+    index: usize,
+    separator: u8,
+    part: &[u8],
+    text: &mut ArrayVec<u8, SIZE>,
+)
+    requires { array_vec_len text.old + 1 + length part.now ≤ SIZE }
+    ensures first { index ≡ 0 → text.new.items ≡ text.old.items ++ part.now }
+    ensures later { 1 ≤ index → text.new.items ≡ text.old.items ++ separator ∷ [] ++ part.now }
+    ensures len { array_vec_len text.new ≤ array_vec_len text.old + 1 + length part.now }
+{
+    if index == 0 {
+        add(part, text);
+    } else {
+        add(&[separator], text);
+        add(part, text);
+    }
 }

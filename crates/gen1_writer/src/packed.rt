@@ -5,8 +5,7 @@ ghost use Rattle.gen1_tables.specs.Names.{move_name};
 ghost use Rattle.gen1_text.specs.Ids.{id_of};
 ghost use Rattle.gen1_writer.specs.Export.{HasDvs, iv_place, packed_evs, packed_ivs, packed_level, packed_member, packed_moves, packed_of};
 
-use crate::bytes::{add, add_next, add_number};
-use crate::numbers::{are_all, evs_of, ivs_of};
+use crate::numbers::{add, add_next, add_number, are_all, evs_of, ivs_of};
 use arrayvec::ArrayVec;
 use gen1_stats::MemberSpec;
 use gen1_tables::MoveId;

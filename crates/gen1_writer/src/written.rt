@@ -4,14 +4,14 @@ ghost use Rattle.gen1_stats.specs.Members.{IsTeam};
 ghost use Rattle.gen1_stats.specs.Teams.{team_of};
 ghost use Rattle.gen1_text.specs.Packed.{members_packed, team_packed};
 ghost use Rattle.gen1_text.specs.Texts.{members_told, team_told};
-ghost use Rattle.gen1_writer.specs.Export.{text_of, HasDvs, packed_of};
-ghost use Rattle.gen1_writer.specs.Written.{as_read, has_other_ups, other_ups_from, write_refusal};
+ghost use Rattle.gen1_writer.specs.Export.{HasDvs, packed_of, text_of, as_read, has_other_ups, other_ups_from, write_refusal, write_words};
 
 use crate::export::text_of;
-use crate::fault::WriteFault;
 use crate::packed::packed_of;
 use arrayvec::ArrayVec;
-use gen1_stats::{MemberSpec, Team};
+use gen1_stats::{MemberSpec, Team, TeamRefusal};
+use std::error::Error;
+use std::fmt;
 
 /// Writes members as export text; or returns why they have none: they are not a team, or a move doesn't have three PP ups
 /// (docs/TEAM_TEXT.md, "Writing"). The text is read as the same team.
@@ -77,3 +77,30 @@ fn has_other_ups(spec: &MemberSpec) -> bool
 {
     spec.moves.as_slice().iter().any(|known| known.1 != 3)
 }
+
+/// Why a team has no text.
+#[derive(Clone, Copy, Debug, PartialEq, Eq)]
+pub enum WriteFault {
+    /// The members are not a team.
+    Team(TeamRefusal),
+    /// A move of this member, counted from 1, has a number of PP ups other than three, for which a text has no place.
+    PpUps(u8),
+}
+
+impl fmt::Display for WriteFault {
+    ghost output = { λ fault. Some (write_words fault) };
+
+    fn fmt<W: fmt::Write>(&self, f: &mut fmt::Formatter<W>) -> fmt::Result {
+        match self {
+            WriteFault::Team(refusal) => write!(f, "{refusal}"),
+            WriteFault::PpUps(member) => {
+                write!(
+                    f,
+                    "member {member}: expected three PP ups for each move, since a text has none"
+                )
+            }
+        }
+    }
+}
+
+impl Error for WriteFault {}

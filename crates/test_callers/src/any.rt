@@ -4,7 +4,7 @@ ghost use Rattle.gen1_events.specs.Sink.{events_room};
 ghost use Rattle.gen1_layout.specs.Words.{Field, HasRoom, None, Setting, Some, Within, move_at, nat_lt, status_in, ℕ};
 ghost use Rattle.gen1_rolls.specs.Draws.{NextByte, Since, StandsIn};
 ghost use Rattle.gen1_rolls.specs.Streams.{byte_at, first};
-ghost use Rattle.gen1_stats.specs.declared.status.Status.TheVariants.{Healthy, Paralysed};
+ghost use Rattle.gen1_stats.specs.declared.member.Status.TheVariants.{Healthy, Paralysed};
 ghost use Rattle.gen1_machine.specs.CriticalHits.{critical_bound_in, rotated_left_3};
 ghost use Rattle.gen1_machine.specs.Damage.{is_factor, rotated_right_1, times_factor};
 ghost use Rattle.gen1_machine.specs.HitTest.{scaled_in, settled_hit_in};

@@ -4,7 +4,7 @@ ghost use Rattle.gen1_events.specs.Sink.{events_room};
 ghost use Rattle.gen1_layout.specs.Words.{Field, HasRoom, None, Reads, Setting, Within, move_at, nat_lt, status_in, true};
 ghost use Rattle.gen1_rolls.specs.Steady.{stream_of};
 ghost use Rattle.gen1_rolls.specs.Streams.{IsStream};
-ghost use Rattle.gen1_stats.specs.declared.status.Status.TheVariants.{Paralysed};
+ghost use Rattle.gen1_stats.specs.declared.member.Status.TheVariants.{Paralysed};
 ghost use Rattle.gen1_machine.specs.CriticalHits.{critical_bound_in, rotated_left_3};
 ghost use Rattle.gen1_machine.specs.Damage.{is_factor, rotated_right_1, times_factor};
 ghost use Rattle.gen1_machine.specs.HitTest.{scaled_in, settled_hit_in};

@@ -1,7 +1,7 @@
 -- Recorded battles: the definitions give each update as it was recorded. Made by tools/gen.
 use Rattle.std.proofs.Common.{List, [], refl, ◌∷◌, ◌≡◌}
-use Rattle.gen1_machine.specs.declared.choice.Choice.{Choice}
-use Rattle.gen1_machine.specs.declared.choice.Choice.TheVariants as choices
+use Rattle.gen1_machine.specs.declared.side.Choice.{Choice}
+use Rattle.gen1_machine.specs.declared.side.Choice.TheVariants as choices
 use Rattle.gen1_machine.specs.Rules.{rules_of}
 use Rattle.gen1_stats.specs.Teams.{team_of}
 use Rattle.gen1_machine.specs.State.{first_state, State}

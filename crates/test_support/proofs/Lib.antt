@@ -4,9 +4,6 @@ mod WorkedBattles
 mod WorkedBounds
 mod WorkedConditions
 mod WorkedCorners
-mod WorkedEffects
-mod WorkedEvents
-mod WorkedTeams
 -- Recorded battles, written by tools/gen.
 mod Battles1
 mod Battles2

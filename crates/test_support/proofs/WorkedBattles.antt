@@ -1,11 +1,8 @@
--- Worked examples: whole battles (docs/PROOFS.md, "Worked examples").
-use Rattle.std.proofs.Common.{List, [], codes, flat_map, length, map, refl, true, ℕ, ◌++◌, ◌==◌, ◌∷◌, ◌≡◌}
+-- Worked examples: whole battles, and teams (docs/PROOFS.md, "Worked examples").
+use Rattle.std.proofs.Common.{List, [], codes, flat_map, length, map, refl, true, ℕ, ◌++◌, ◌==◌, ◌∷◌, ◌≡◌, None, Option, Some, replicate}
 use Rattle.gen1_machine.specs.declared.side.Side.{Side}
 use Rattle.gen1_machine.specs.declared.side.Side.TheVariants.{One, Two}
-use Rattle.gen1_machine.specs.declared.terms.Outcome.TheVariants as outcomes
-use Rattle.gen1_machine.specs.declared.terms.Request.TheVariants as requests
-use Rattle.gen1_machine.specs.declared.choice.Choice.{Choice}
-use Rattle.gen1_machine.specs.declared.choice.Choice.TheVariants as choices
+use Rattle.gen1_machine.specs.declared.side.Choice.{Choice}
 use Rattle.gen1_machine.specs.Rules.{no_rules}
 use Rattle.gen1_machine.specs.LogBytes.{codes_of}
 use Rattle.gen1_machine.specs.Lines.{lines}
@@ -17,6 +14,12 @@ use Rattle.gen1_machine.specs.Layout.{bytes_of}
 use Rattle.gen1_machine.proofs.Computing.{computing}
 use Rattle.test_support.proofs.Reports.{as_number}
 use Rattle.gen1_machine.proofs.WorkedRules.{tauros, knowing}
+use Rattle.gen1_stats.specs.declared.team.TeamRefusal.{TeamRefusal}
+use Rattle.gen1_stats.specs.declared.team.TeamRefusal.TheVariants.{Dv, Empty, Level, MoveLeftOut, NoMove, PpUps, RepeatedMove, StruggleChosen, TooMany}
+use Rattle.gen1_stats.specs.Teams.{Sheet, team_of, team_refusal}
+use Rattle.gen1_machine.specs.declared.terms.Outcome.TheVariants as outcomes
+use Rattle.gen1_machine.specs.declared.terms.Request.TheVariants as requests
+use Rattle.gen1_machine.specs.declared.side.Choice.TheVariants as choices
 
 abbrev two_tauros : ℕ → State
 two_tauros limit = first_state (record { rules = no_rules; limit = limit }) (tauros ∷ []) (tauros ∷ [])
@@ -144,3 +147,58 @@ room_replies : replies_of (room_of (two_tauros 1000)) submissions ≡
     ∷ TurnedAway (Stale 1) ∷ TurnedAway ChoiceNotOffered ∷ []
 unfolding computing
 room_replies = refl
+
+-- Worked examples: teams (docs/PROOFS.md, "Worked examples").
+
+-- A Tauros with full DVs and experience, at a level and with moves, each with its PP ups.
+abbrev asked_for : ℕ → List (ℕ × ℕ) → Sheet
+asked_for level moves = record { species = 128; level = level; dvs = replicate 4 15; exp = replicate 5 65535; moves = moves }
+
+abbrev good : Sheet
+good = asked_for 100 ((70, 3) ∷ [])
+
+-- The members of a team (docs/MECHANICS.md, "Teams"): unhurt and healthy. Strength has 15 PP, and 3 more for each PP
+-- up, so 24
+
+team_as_it_begins : team_of (good ∷ []) ≡ tauros ∷ []
+unfolding computing
+team_as_it_begins = refl
+
+-- Each refusal alone: levels 0 and 101, a DV of 16, Metronome, Mimic, Mirror Move and Transform, Struggle, Strength
+-- twice, four PP ups
+
+abbrev alone : ℕ → List (ℕ × ℕ) → Option TeamRefusal
+alone level moves = team_refusal (asked_for level moves ∷ [])
+
+how_many_members : team_refusal [] ∷ team_refusal (replicate 7 good) ∷ team_refusal (replicate 6 good) ∷ team_refusal (good ∷ []) ∷ []
+    ≡ Some Empty ∷ Some TooMany ∷ None ∷ None ∷ []
+unfolding computing
+how_many_members = refl
+
+levels_and_dvs : map (λ level. alone level ((70, 3) ∷ [])) (0 ∷ 1 ∷ 100 ∷ 101 ∷ []) ≡ Some (Level 1) ∷ None ∷ None ∷ Some (Level 1) ∷ []
+unfolding computing
+levels_and_dvs = refl
+
+a_dv_of_16 : team_refusal (record good { dvs = 15 ∷ 15 ∷ 15 ∷ 16 ∷ [] } ∷ []) ≡ Some (Dv 1)
+unfolding computing
+a_dv_of_16 = refl
+
+moves_that_are_left_out : map (λ move. alone 100 ((move, 0) ∷ [])) (118 ∷ 102 ∷ 119 ∷ 144 ∷ 165 ∷ 70 ∷ [])
+    ≡ Some (MoveLeftOut 1) ∷ Some (MoveLeftOut 1) ∷ Some (MoveLeftOut 1) ∷ Some (MoveLeftOut 1) ∷ Some (StruggleChosen 1) ∷ None ∷ []
+unfolding computing
+moves_that_are_left_out = refl
+
+other_moves : alone 100 [] ∷ alone 100 ((70, 0) ∷ (34, 0) ∷ (70, 1) ∷ []) ∷ alone 100 ((70, 3) ∷ (34, 4) ∷ []) ∷ []
+    ≡ Some (NoMove 1) ∷ Some (RepeatedMove 1) ∷ Some (PpUps 1) ∷ []
+unfolding computing
+other_moves = refl
+
+-- The order of the tests: the number of members is tested first. Then each member takes all its tests before the next
+-- member, and each test covers all moves before the next test
+
+first_refusals : team_refusal (asked_for 0 [] ∷ replicate 6 good) ∷ alone 0 [] ∷ alone 100 ((70, 4) ∷ (165, 0) ∷ (70, 0) ∷ [])
+    ∷ alone 100 ((165, 0) ∷ (118, 0) ∷ []) ∷ team_refusal (asked_for 100 ((70, 4) ∷ []) ∷ asked_for 0 [] ∷ [])
+    ∷ team_refusal (good ∷ good ∷ asked_for 100 ((70, 4) ∷ (70, 0) ∷ []) ∷ asked_for 0 [] ∷ []) ∷ []
+    ≡ Some TooMany ∷ Some (Level 1) ∷ Some (StruggleChosen 1) ∷ Some (MoveLeftOut 1) ∷ Some (PpUps 1) ∷ Some (RepeatedMove 3) ∷ []
+unfolding computing
+first_refusals = refl

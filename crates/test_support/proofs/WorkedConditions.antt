@@ -1,11 +1,11 @@
 -- Worked examples: what ends a condition (docs/PROOFS.md, "Worked examples").
 use Rattle.std.proofs.Common.{Bool, List, None, Option, Some, [], false, map, refl, true, ℕ, ◌∷◌, ◌≡◌}
 use Rattle.gen1_tables.specs.declared.effect.Effect.TheVariants as effects
-use Rattle.gen1_stats.specs.declared.status.Status.TheVariants.{Paralysed}
+use Rattle.gen1_stats.specs.declared.member.Status.TheVariants.{Paralysed}
 use Rattle.gen1_machine.specs.declared.side.Side.TheVariants.{One, Two}
-use Rattle.gen1_machine.specs.declared.picks.UsedMove.TheVariants.{Slot}
-use Rattle.gen1_machine.specs.declared.picks.Pick.TheVariants.{Use, Continue}
-use Rattle.gen1_machine.specs.declared.choice.Choice.TheVariants as choices
+use Rattle.gen1_machine.specs.declared.side.UsedMove.TheVariants.{Slot}
+use Rattle.gen1_machine.specs.declared.side.Pick.TheVariants.{Use, Continue}
+use Rattle.gen1_machine.specs.declared.side.Choice.TheVariants as choices
 use Rattle.gen1_rolls.specs.Streams.{Sweep}
 use Rattle.gen1_stats.specs.Members.{Member}
 use Rattle.gen1_machine.specs.Conditions.{with_recharge, with_seed, with_trapping, no_conditions, nothing_underway, ActiveConditions, Underway}

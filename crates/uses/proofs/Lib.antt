@@ -1,6 +1,4 @@
--- What is offered is accepted.
-pub mod Offers
 -- What a viewer has shown, event by event.
-pub mod Viewing
+pub mod Examples
 -- The calls of a battle, one after the other.
 pub mod TheTheorem

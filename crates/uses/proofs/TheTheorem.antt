@@ -3,7 +3,7 @@ use Rattle.std.proofs.Common.{List, Result, [], ap, append-nil, append_assoc, ar
 use Rattle.std.proofs.lemmas.List.{drop_all, take_all, take_more_set}
 use Rattle.arrayvec.specs.ArrayVec.{ArrayVec}
 use Rattle.gen1_machine.specs.declared.side.Side.TheVariants.{One, Two}
-use Rattle.gen1_machine.specs.declared.choice.Choice.{Choice}
+use Rattle.gen1_machine.specs.declared.side.Choice.{Choice}
 use Rattle.gen1_machine.specs.Layout.{bytes_of}
 use Rattle.gen1_machine.specs.LogBytes.{codes_of}
 use Rattle.gen1_machine.specs.OfferedChoices.{offered}
@@ -16,12 +16,11 @@ use Rattle.gen1_layout.specs.LoadingLaws.{IsBattle}
 use Rattle.gen1_layout.specs.Parts.{Parts, parts_of}
 use Rattle.gen1_layout.specs.Shows.{Stands}
 use Rattle.gen1_layout.proofs.WaysBack.{parts-bytes_of}
-use Rattle.gen1_engine.specs.Calls.{Updates}
+use Rattle.gen1_engine.specs.Update.{AnswersAs, LogsAs, Updates, result_of}
 use Rattle.gen1_engine.specs.declared.result.BattleResult.{BattleResult}
 use Rattle.gen1_engine.specs.declared.result.Refusal.{Refusal}
-use Rattle.gen1_engine.specs.Update.{AnswersAs, LogsAs, result_of}
 use Rattle.gen1_engine.proofs.Making.{calls_are_the_run}
-use Rattle.gen1_spectator.specs.Following.{AreRead}
+use Rattle.gen1_spectator.specs.Plain.{AreRead}
 use Rattle.uses.specs.TheTheorem.{IsLogged, called, calls_in, logs_of, pair_of, returned_by}
 use Rattle.uses.specs.declared.the_theorem.Update.{Update}
 

@@ -2,19 +2,19 @@
 use Rattle.std.specs.Prelude.{Err, List, Ok, Result, [], map, ℕ, ◌≡◌, ◌∷◌}
 use Rattle.gen1_stats.specs.Members.{Member}
 use Rattle.gen1_machine.specs.declared.side.Side.TheVariants.{One, Two}
-use Rattle.gen1_machine.specs.declared.choice.Choice.{Choice}
+use Rattle.gen1_machine.specs.declared.side.Choice.{Choice}
 use Rattle.gen1_machine.specs.Layout.{bytes_of}
 use Rattle.gen1_machine.specs.LogBytes.{codes_of}
 use Rattle.gen1_machine.specs.OfferedChoices.{offered}
 use Rattle.gen1_machine.specs.State.{State, Terms, first_state}
 use Rattle.gen1_machine.specs.Step.{Accepted, Answer, Refused, events_of, run, step}
 use Rattle.gen1_machine.specs.View.{View, shows}
-use Rattle.gen1_events.specs.declared.fault.LogFault.{LogFault}
+use Rattle.gen1_events.specs.declared.reader.LogFault.{LogFault}
 use Rattle.gen1_events.specs.Reader.{IsReading}
 use Rattle.gen1_engine.specs.declared.result.BattleResult.{BattleResult}
 use Rattle.gen1_engine.specs.declared.result.Refusal.{Refusal}
 use Rattle.gen1_engine.specs.Update.{refusal_of, result_of}
-use Rattle.gen1_spectator.specs.Following.{AreRead, joined}
+use Rattle.gen1_spectator.specs.Plain.{AreRead, joined}
 use Rattle.uses.specs.declared.the_theorem.Beginning.{Beginning}
 use Rattle.uses.specs.declared.the_theorem.Update.{Update}
 

@@ -3,7 +3,7 @@
 ghost use Rattle.std.specs.Prelude.{IfOk, ◌≡◌};
 ghost use Rattle.gen1_layout.specs.Shows.{Stands};
 ghost use Rattle.gen1_layout.specs.Words.{Reads, move_at};
-ghost use Rattle.uses.specs.Calculations.{calculation_in, faced_off, taking_all};
+ghost use Rattle.uses.specs.Examples.{calculation_in, faced_off, taking_all};
 
 use gen1_hits::{critical_bound, damage_list, numbers, scaled_accuracy};
 use gen1_layout::{Conditions, Packed};

@@ -4,7 +4,7 @@ ghost use Rattle.std.specs.Prelude.{IfOk, IsOk, length, true, ◌≡◌, ◌≤�
 ghost use Rattle.gen1_machine.specs.State.{State, is_over};
 ghost use Rattle.gen1_machine.specs.Step.{is_among};
 ghost use Rattle.gen1_layout.specs.Shows.{Stands};
-ghost use Rattle.uses.specs.Playing.{PlayedOut};
+ghost use Rattle.uses.specs.Examples.{PlayedOut};
 
 use gen1_engine::{Battle, BattleResult, Choices, Refusal};
 use gen1_machine::{Choice, EventList, Side};

@@ -6,7 +6,7 @@ ghost use Rattle.gen1_machine.specs.State.{State};
 ghost use Rattle.gen1_machine.specs.Step.{step};
 ghost use Rattle.gen1_machine.specs.View.{shows};
 ghost use Rattle.gen1_layout.specs.Shows.{Stands};
-ghost use Rattle.gen1_spectator.specs.Following.{joined};
+ghost use Rattle.gen1_spectator.specs.Plain.{joined};
 ghost use Rattle.uses.specs.TheTheorem.{IsLogged, KnowsRuns, after, begun, called, calls_in, logs_of};
 
 use gen1_engine::{Battle, BattleResult, Choices, Refusal};

@@ -3,7 +3,7 @@ ghost use Rattle.std.specs.Prelude.{◌≡◌, ◌↔◌, ◌<◌, ◌&&◌, ◌
 ghost use Rattle.gen1_machine.specs.Valid.{OnlyWith};
 ghost use Rattle.gen1_layout.specs.Loading.{active_bytes, long, word, PassesOfActives, effect_in, has, CountFits, DisabledFits, HoldsMove, PassesActive, PassesActiveAt, PassesCounts, PassesFixed, PassesOut, PassesProgress, PassesStages, PassesUnderway, TurnsFit, UsedFits};
 
-use crate::loading::bytes::{active_bytes, are_zero, long, member_bytes, word};
+use crate::loading::{active_bytes, are_zero, long, member_bytes, word};
 use crate::offsets;
 use crate::offsets::{
     ACCURACY_STAGE, ATTACK_STAGE, BEFORE_MOVES, CONDITIONS, CURRENT_MOVE, DEFENSE_STAGE,

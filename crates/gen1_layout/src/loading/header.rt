@@ -3,7 +3,7 @@ ghost use Rattle.std.specs.Prelude.{◌≡◌, ◌↔◌, IsTrue, length};
 ghost use Rattle.gen1_stats.specs.Members.{IsBetween};
 ghost use Rattle.gen1_layout.specs.Loading.{header_of, version_three, PassesHeader, PassesVersion};
 
-use crate::loading::bytes::word;
+use crate::loading::word;
 use crate::offsets::{INDEX, LIMIT, OUTCOME, REQUEST_ONE, REQUEST_TWO, RULES, TURN, VERSION};
 
 // Whether the version exists.

@@ -3,7 +3,7 @@ ghost use Rattle.std.specs.Prelude.{◌≡◌, ◌≢◌, ◌↔◌, ◌≤◌, 
 ghost use Rattle.gen1_stats.specs.Members.{IsBetween};
 ghost use Rattle.gen1_layout.specs.Loading.{member_bytes, PassesOfMembers, may_be_known, status_fits, PassesMember, PassesMembers, PassesMoves, PassesNumbers, PassesOwnStats, PassesPlace, PassesSlot, PassesStatus};
 
-use crate::loading::bytes::{are_zero, member_bytes, word};
+use crate::loading::{are_zero, member_bytes, word};
 use crate::offsets::{
     ATTACK, BEFORE_MOVES, BEFORE_PP, DEFENSE, HP, LEVEL, MARK, MAX_HP, MOVES, RULES, SPECIAL,
     SPECIES, SPEED, STATUS,

@@ -3,7 +3,7 @@ ghost use Rattle.std.specs.Prelude.{◌≡◌, ◌↔◌, IsTrue, length, slice_
 ghost use Rattle.gen1_stats.specs.Members.{IsBetween};
 ghost use Rattle.gen1_layout.specs.Loading.{member_bytes, word, PassesOfActives, PassesOfRequests, out_bytes, any_lives, lives, Asks, PassesAsked, PassesLater, PassesStart, PassesTie};
 
-use crate::loading::bytes::{member_bytes, word};
+use crate::loading::{member_bytes, word};
 use crate::offsets::{HP, LIMIT, OUTCOME, PLACE_IN_SIDE, REQUEST_ONE, REQUEST_TWO, TURN};
 
 // Whether a battle asks for what fits its turn, its outcome and its living members.

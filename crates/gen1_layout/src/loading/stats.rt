@@ -3,7 +3,7 @@ ghost use Rattle.std.specs.Prelude.{◌≡◌, ◌↔◌, ◌≤◌, IsTrue, len
 ghost use Rattle.gen1_machine.specs.Stages.{now_at};
 ghost use Rattle.gen1_layout.specs.Loading.{active_bytes, word, PassesOfActives, PassesOfStats, PassesActiveAt, PassesStages, ComesFrom, PassesStats, PassesStatsAt};
 
-use crate::loading::bytes::{active_bytes, member_bytes, word};
+use crate::loading::{active_bytes, member_bytes, word};
 use crate::offsets::{
     ATTACK, ATTACK_STAGE, CURRENT_ATTACK, CURRENT_DEFENSE, CURRENT_SPECIAL, CURRENT_SPEED, DEFENSE,
     DEFENSE_STAGE, PLACE_IN_SIDE, SPECIAL, SPECIAL_STAGE, SPEED, SPEED_STAGE, TURN,

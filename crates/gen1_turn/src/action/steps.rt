@@ -1,26 +1,25 @@
-//! An action after its move is settled (docs/MECHANICS.md, "Action", from step 2 on).
+//! An action after its move is settled, up to the hit or the miss, and a side effect (docs/MECHANICS.md, "Action").
 ghost use Rattle.std.specs.Prelude.{◌&&◌, ◌||◌, ◌≡◌};
-ghost use Rattle.gen1_rolls.specs.Draws.{Steps};
-ghost use Rattle.gen1_layout.specs.Operations.{DrawsWhere, quiet, scene};
-ghost use Rattle.gen1_layout.specs.Words.{AddsAtMost, AddsNone, Event, HasRoom, List, false, move_at, stop, ◌▸◌};
-ghost use Rattle.gen1_machine.specs.Action.{carry_out, damage_of, lands_at_once, lead_up, lets_energy_go};
-ghost use Rattle.gen1_machine.specs.LateEffects.{is_late, late_effect};
 ghost use Rattle.gen1_tables.specs.Effects.{traps};
+ghost use Rattle.gen1_rolls.specs.Draws.{Steps};
+ghost use Rattle.gen1_machine.specs.Action.{carry_out, damage_of, lands_at_once, lead_up, lets_energy_go, strike};
+ghost use Rattle.gen1_machine.specs.LateEffects.{is_late, late_effect};
 ghost use Rattle.gen1_machine.specs.Progress.{only, unless};
+ghost use Rattle.gen1_machine.specs.State.{has_fallen_in};
+ghost use Rattle.gen1_layout.specs.Operations.{DrawsWhere, anything, quiet, scene};
+ghost use Rattle.gen1_layout.specs.Words.{AddsAtMost, AddsNone, Event, HasRoom, List, Reads, false, move_at, other, stop, ◌▸◌};
 ghost use Rattle.gen1_hits.specs.Knowing.{IsUncounted, aware};
 ghost use Rattle.gen1_hits.specs.Planned.{taking, using};
-ghost use Rattle.gen1_turn.specs.Action.{late_part, damage_and_strike};
-ghost use Rattle.gen1_turn.specs.Damage.{DrawsLike, LikeUsual};
+ghost use Rattle.gen1_turn.specs.Action.{damage_and_strike, hits_with_effect, late_part, DrawsLike, LikeUsual};
 
-use super::damage::damage_of;
+use super::damage_of;
 use super::lead_up::lead_up;
-use super::strike::strike;
-use gen1_effects::{group_two_knowing, is_late};
+use gen1_effects::{group_two_knowing, is_late, side_effect_knowing};
 use gen1_events::EventSink;
 use gen1_hits::Known;
 use gen1_layout::Packed;
 use gen1_machine::{Pick, Side};
-use gen1_multiturn::bide_knowing;
+use gen1_multiturn::{bide_knowing, hits, missed_move};
 use gen1_rolls::Rolls;
 use gen1_tables::{Effect, MoveId};
 
@@ -172,4 +171,57 @@ fn late_effect<R: Rolls, S: EventSink>(
         return true;
     }
     false
+}
+
+pub(crate) fn strike<R: Rolls, S: EventSink>(
+    battle: &mut Packed,
+    side: Side,
+    id: MoveId,
+    known: &mut Known,
+    random: &mut R,
+    events: &mut S,
+) -> bool
+    requires room { HasRoom S.room 14 events.old }
+    requires counts { IsUncounted known.old }
+    ensures shown { DrawsWhere R.drawing random anything (aware known (scene S.tells battle events))
+        result (λ r. strike r side (move_at id)) }
+    ensures room { AddsAtMost S.room 14 events.old events.new }
+    ensures steps { Steps R.drawing random }
+{
+    if known.missed {
+        missed_move(battle, side, id, events);
+        return true;
+    }
+    hits_with_effect(battle, side, id, known, random, events)
+}
+
+// After the move is known to hit.
+fn hits_with_effect<R: Rolls, S: EventSink>(
+    battle: &mut Packed,
+    side: Side,
+    id: MoveId,
+    known: &mut Known,
+    random: &mut R,
+    events: &mut S,
+) -> bool
+    requires room { HasRoom S.room 14 events.old }
+    requires counts { IsUncounted known.old }
+    ensures shown { DrawsWhere R.drawing random anything (aware known (scene S.tells battle events))
+        result (λ r. hits_with_effect r side (move_at id)) }
+    ensures room { AddsAtMost S.room 14 events.old events.new }
+    ensures steps { Steps R.drawing random }
+{
+    hits(battle, side, id, known, random, events);
+    if has_no_effect(battle, side, known) {
+        return false;
+    }
+    side_effect_knowing(battle, side, id, known, random, events)
+}
+
+// Bide's energy, a hit that breaks a substitute and a fall have no side effect.
+fn has_no_effect(battle: &Packed, side: Side, known: &Known) -> bool
+    ensures stands { Reads battle.now result λ f.
+        (known.now.letting_go || (known.now.broke || has_fallen_in (other side) f)) }
+{
+    known.letting_go || (known.broke || battle.hp(side.other()) == 0)
 }

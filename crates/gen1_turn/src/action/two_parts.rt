@@ -11,15 +11,12 @@ ghost use Rattle.gen1_machine.specs.Ruling.{ruling_of};
 ghost use Rattle.gen1_hits.specs.Knowing.{IsUncounted, ShowsKnown, ShowsOver};
 ghost use Rattle.gen1_hits.specs.Planned.{taking, using};
 ghost use Rattle.gen1_hits.specs.DamageNumbers.{has_usual_damage};
-ghost use Rattle.gen1_turn.specs.Action.{acting, ready, damage_and_strike, late_part};
-ghost use Rattle.gen1_turn.specs.Damage.{LikeDamage};
+ghost use Rattle.gen1_turn.specs.Action.{acting, ready, damage_and_strike, late_part, LikeDamage};
 ghost use Rattle.gen1_turn.specs.TwoParts.{IsRolling, PlaysTo, RollsDamage, TestsHit, fresh, from_roll, from_test, known_at, parts_from_roll, rolling};
 
-use super::damage::damage_edge;
-use super::keep_accuracy;
-use super::steps::{damage_and_strike, lands_at_once, lead_up_unless_let_go};
-use super::strike::strike;
-use super::taken_move::{move_taken, see_if_going_on};
+use super::lead_up::{move_taken, see_if_going_on};
+use super::steps::{damage_and_strike, lands_at_once, lead_up_unless_let_go, strike};
+use super::{damage_edge, keep_accuracy};
 use gen1_events::EventSink;
 use gen1_hits::{
     Known, critical, damage, factor_up_to, has_usual_damage, hit_or_miss, numbers, type_steps,

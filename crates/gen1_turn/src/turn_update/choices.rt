@@ -1,8 +1,6 @@
-//! A turn, by both choices (docs/MECHANICS.md, "Order of a turn").
+//! A turn, by both choices, and who acts first in it (docs/MECHANICS.md, "Order of a turn").
 ghost use Rattle.std.specs.Prelude.{◌≡◌};
 ghost use Rattle.gen1_rolls.specs.Draws.{Steps};
-ghost use Rattle.gen1_layout.specs.Operations.{Does, DoesAnyway, DoesWhere, holding, quiet, scene};
-ghost use Rattle.gen1_layout.specs.Words.{AddsAtMost, Bool, Event, Frame, HasRoom, List, Progress, Shows, Told, false, length, member_in, other};
 ghost use Rattle.gen1_machine.specs.declared.side.Side.TheVariants as sides;
 ghost use Rattle.gen1_machine.specs.Conditions.{without_flinch};
 ghost use Rattle.gen1_machine.specs.State.{active_in};
@@ -10,22 +8,23 @@ ghost use Rattle.gen1_machine.specs.Progress.{on_conditions};
 ghost use Rattle.gen1_machine.specs.Picks.{picked_after};
 ghost use Rattle.gen1_machine.specs.Plans.{Any, FitsPick};
 ghost use Rattle.gen1_machine.specs.Turn.{both_pick, both_switch, do_parts, is_cut, one_picks, play_turn, set_picked, turn};
-ghost use Rattle.gen1_machine.specs.TurnOrder.{rank_in};
+ghost use Rattle.gen1_machine.specs.TurnOrder.{in_order, in_order_of_rank, in_order_of_speed, rank, rank_in};
 ghost use Rattle.gen1_machine.specs.Valid.{IsUsedMove};
 ghost use Rattle.gen1_machine.specs.Ruling.{ruling_of};
+ghost use Rattle.gen1_layout.specs.Operations.{Does, DoesAnyway, DoesWhere, holding, quiet, scene};
+ghost use Rattle.gen1_layout.specs.Words.{AddsAtMost, Bool, Event, Frame, HasRoom, List, Progress, Reads, Shows, Told, false, length, member_in, other};
 ghost use Rattle.gen1_hits.specs.Knowing.{knowing, with_broke};
-ghost use Rattle.gen1_turn.specs.TurnParts.{Chooses, DoesTurn, MayCome, acts_in_turn};
+ghost use Rattle.gen1_turn.specs.TwoParts.{Chooses, DoesTurn, MayCome, Orders, acts_in_turn};
 ghost use Rattle.gen1_turn.specs.Action.{acting, aware_after, planning};
 
-use super::by_side::BySide;
-use super::order::{rank, rank_of, side_by_ranks};
-use super::parts::{act_and_suffer, end_spent_trapping, end_turn, sends_and_suffers};
+use super::parts::{BySide, act_and_suffer, end_spent_trapping, end_turn, sends_and_suffers};
 use gen1_events::EventSink;
 use gen1_hits::Known;
 use gen1_layout::{Conditions, Packed};
 use gen1_machine::{Choice, Pick, Place, Side, UsedMove};
-use gen1_rolls::Rolls;
+use gen1_rolls::{Look, Rolls};
 use gen1_status::{number_of, pick};
+use gen1_tables::{COUNTER, Stat};
 
 // A whole turn. No member has fainted after it yet. If it returns false, both members that are out live and the battle continues.
 pub(crate) fn take_turn<R: Rolls, S: EventSink>(
@@ -245,4 +244,70 @@ fn both_switch<S: EventSink>(
     }
     // Neither side is trapping.
     false
+}
+
+const QUICK_ATTACK: u8 = 98;
+
+// At equal Speed, a draw below this puts side 1 first.
+const SIDE_1_BELOW: u8 = 128;
+
+/// The side that acts first: by the picked moves, then by Speed, then by a draw (docs/MECHANICS.md, "Order of a turn").
+#[inline(always)] // docs/SPEED.md, "Hints on inlining"
+pub fn first_side<R: Rolls>(battle: &Packed, random: &mut R) -> Side
+    ensures shown { Orders R.drawing random battle.now result in_order }
+    ensures steps { Steps R.drawing random }
+{
+    let one = rank_of(battle, Side::One);
+    let two = rank_of(battle, Side::Two);
+    side_by_ranks(battle, one, two, random)
+}
+
+// The side that acts first, by the ranks of both sides' moves.
+#[inline(always)] // docs/SPEED.md, "Hints on inlining"
+fn side_by_ranks<R: Rolls>(battle: &Packed, one: u8, two: u8, random: &mut R) -> Side
+    ensures shown { Orders R.drawing random battle.now result (in_order_of_rank one two) }
+    ensures steps { Steps R.drawing random }
+{
+    if one < two {
+        return Side::One;
+    }
+    if two < one {
+        return Side::Two;
+    }
+    faster_side(battle, random)
+}
+
+fn faster_side<R: Rolls>(battle: &Packed, random: &mut R) -> Side
+    ensures shown { Orders R.drawing random battle.now result in_order_of_speed }
+    ensures steps { Steps R.drawing random }
+{
+    let one = battle.current_stat(Side::One, Stat::Speed);
+    let two = battle.current_stat(Side::Two, Stat::Speed);
+    if two < one {
+        return Side::One;
+    }
+    if one < two {
+        return Side::Two;
+    }
+    if random.draw_as(Look::Below(SIDE_1_BELOW)) < SIDE_1_BELOW {
+        return Side::One;
+    }
+    Side::Two
+}
+
+fn rank_of(battle: &Packed, side: Side) -> u8
+    ensures stands { Reads battle.now result (rank_in side) }
+{
+    rank(number_of(battle, side, battle.picked_move(side)))
+}
+
+// Quick Attack comes before other moves, and Counter after them.
+fn rank(number: u8) -> u8
+    ensures { result ≡ rank number }
+{
+    match number {
+        QUICK_ATTACK => 0,
+        COUNTER => 2,
+        _ => 1,
+    }
 }

@@ -1,28 +1,31 @@
-//! The parts of a turn, each with the residual damage of its side (docs/MECHANICS.md, "Order of a turn").
+//! The parts of a turn, each with the residual damage of its side; a side's action in two parts; and a generator as two
+//! types, one for the action of each side (docs/MECHANICS.md, "Order of a turn").
 ghost use Rattle.std.specs.Prelude.{◌||◌, ◌≡◌};
 ghost use Rattle.gen1_rolls.specs.Draws.{Steps};
-ghost use Rattle.gen1_layout.specs.Operations.{Does, quiet, scene};
-ghost use Rattle.gen1_layout.specs.Words.{AddsAtMost, Bool, Event, Frame, HasRoom, List, Progress, Reads, Shows, false, member_at, party};
 ghost use Rattle.gen1_machine.specs.declared.side.Side.TheVariants as sides;
 ghost use Rattle.gen1_machine.specs.State.{has_fallen_in, is_over};
 ghost use Rattle.gen1_machine.specs.ResidualDamage.{residual};
 ghost use Rattle.gen1_machine.specs.Ruling.{Ruling};
 ghost use Rattle.gen1_machine.specs.Turn.{Sends, do_part, end_spent_trapping, end_turn, is_cut, is_spent};
+ghost use Rattle.gen1_layout.specs.Operations.{Does, quiet, scene};
+ghost use Rattle.gen1_layout.specs.Words.{AddsAtMost, Bool, Event, Frame, HasRoom, List, Progress, Reads, Shows, false, member_at, move_at, party};
+ghost use Rattle.gen1_hits.specs.Knowing.{IsUncounted, knowing, with_broke};
 ghost use Rattle.gen1_status.specs.Statuses.{takes_hp};
-ghost use Rattle.gen1_hits.specs.Knowing.{knowing, with_broke};
 ghost use Rattle.gen1_turn.specs.Action.{acting};
-ghost use Rattle.gen1_turn.specs.TurnParts.{ActsAndSuffers, LeavesRest, MayCome, PartLeaves, suffering};
+ghost use Rattle.gen1_turn.specs.TwoParts.{ActsAndSuffers, LeavesRest, MayCome, PartLeaves, suffering, ActsAfter, ActsTo};
 
-use super::by_side::BySide;
 use crate::act;
+use crate::action::{Acted, from_test, to_roll};
 use gen1_events::EventSink;
 use gen1_hits::Known;
 use gen1_layout::Packed;
 use gen1_machine::{Pick, Place, Side};
-use gen1_rolls::Rolls;
+use gen1_rolls::{ByteTest, Look, Rolls};
 use gen1_stats::Status;
 use gen1_status::{residual, suffers};
 use gen1_switching::send_out;
+use gen1_tables::MoveId;
+use std::marker::Model;
 
 // A side's action, and its residual damage, by separate code for each side. Returns whether the rest of the turn is
 // skipped.
@@ -117,11 +120,7 @@ fn takes_hp(status: Status) -> bool
 
 // A side's residual damage after a skipped action. Few actions are skipped.
 #[inline(never)] // docs/SPEED.md, "Hints on inlining"
-pub(super) fn suffer_unless_over<S: EventSink>(
-    battle: &mut Packed,
-    side: Side,
-    events: &mut S,
-) -> bool
+fn suffer_unless_over<S: EventSink>(battle: &mut Packed, side: Side, events: &mut S) -> bool
     requires room { HasRoom S.room 3 events.old }
     ensures shown { (g : Frame) (p : Progress) → Shows g battle.old (S.tells events.old) false p
         → LeavesRest (Shows g battle.new (S.tells events.new)) result (suffering side) (residual side)
@@ -137,7 +136,7 @@ pub(super) fn suffer_unless_over<S: EventSink>(
 // A side's residual damage in a battle that continues, unless an active member has fallen. Returns whether the turn is
 // cut now.
 #[inline(always)] // docs/SPEED.md, "Hints on inlining"
-pub(super) fn suffer<S: EventSink>(battle: &mut Packed, side: Side, events: &mut S) -> bool
+fn suffer<S: EventSink>(battle: &mut Packed, side: Side, events: &mut S) -> bool
     requires room { HasRoom S.room 3 events.old }
     ensures shown { (g : Frame) (p : Progress) → is_over p.field.outcome ≡ false
         → Shows g battle.old (S.tells events.old) false p
@@ -198,4 +197,92 @@ fn is_spent(count: Option<u8>) -> bool
     ensures { result ≡ is_spent count }
 {
     count == Some(0)
+}
+
+/// Plays the action of `side` in a turn up to the roll of its damage (docs/MECHANICS.md, "Action", "Factors").
+///
+/// If the action rolls no damage of 2 or more, it is played to its end, and then its residual damage. `test_hit` and
+/// what follows it play the rest of an action that rolls. It needs 24 free places in `events`.
+pub fn act_to_roll<R: Rolls, S: EventSink>(
+    battle: &mut Packed,
+    side: Side,
+    pick: Pick,
+    known: &mut Known,
+    random: &mut R,
+    events: &mut S,
+) -> Acted
+    requires room { HasRoom S.room 24 events.old }
+    ensures shown { ActsTo R.drawing random side pick (acting known (scene S.tells battle events))
+        result }
+    ensures room { AddsAtMost S.room 24 events.old events.new }
+    ensures steps { Steps R.drawing random }
+{
+    *known = known.begun(side);
+    if known.skips {
+        return Acted::Ended(suffer_unless_over(battle, side, events));
+    }
+    match to_roll(battle, side, pick, known, random, events) {
+        Acted::Ended(true) => Acted::Ended(true),
+        Acted::Ended(false) => Acted::Ended(suffer(battle, side, events)),
+        Acted::Rolls(roll) => Acted::Rolls(roll),
+    }
+}
+
+/// Plays the rest of an action of `side` after its hit test and its roll, and then its residual damage
+/// (docs/MECHANICS.md, "Action", from step 9 on).
+///
+/// `test_hit` came before, and `roll_damage_of` if it hit. Returns whether the rest of the turn is skipped. It needs 17
+/// free places in `events`.
+pub fn act_after_test<R: Rolls, S: EventSink>(
+    battle: &mut Packed,
+    side: Side,
+    id: MoveId,
+    known: &mut Known,
+    random: &mut R,
+    events: &mut S,
+) -> bool
+    requires room { HasRoom S.room 17 events.old }
+    requires counts { IsUncounted known.old }
+    ensures shown { ActsAfter R.drawing random side (move_at id)
+        (acting known (scene S.tells battle events)) result }
+    ensures room { AddsAtMost S.room 17 events.old events.new }
+    ensures steps { Steps R.drawing random }
+{
+    if from_test(battle, side, id, known, random, events) {
+        return true;
+    }
+    suffer(battle, side, events)
+}
+
+/// A second type for a generator, with the same draws.
+///
+/// Code that is generic in its generator is compiled once for each type. Side 1's action draws from `.0`, and side
+/// 2's from this type, so the two are separate code. In each of them the side, and with it every address, is a
+/// constant (docs/SPEED.md, "An action for each side").
+#[derive(Drop)]
+pub(crate) struct BySide<R>(pub(crate) R);
+
+impl<R> Model for BySide<R> {
+    ghost Value = { R };
+
+    ghost view = { λ r. r.0 };
+
+    ghost inverse = { λ r. record { 0 = r } };
+}
+
+impl<R: Rolls> Rolls for BySide<R> {
+    ghost drawing = { R.drawing };
+
+    fn draw(&mut self) -> u8 {
+        self.0.draw()
+    }
+
+    fn draw_as(&mut self, look: Look) -> u8 {
+        self.0.draw_as(look)
+    }
+
+    #[inline(always)] // docs/SPEED.md, "Hints on inlining"
+    fn until_as(&mut self, test: ByteTest, look: Look) -> Option<u8> {
+        self.0.until_as(test, look)
+    }
 }

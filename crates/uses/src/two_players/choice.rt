@@ -4,7 +4,7 @@ ghost use Rattle.std.specs.Prelude.{◌≡◌};
 ghost use Rattle.gen1_machine.specs.Room.{Course, after, reply_to};
 ghost use Rattle.gen1_events.specs.Reader.{IsReading};
 ghost use Rattle.gen1_room.specs.Rooms.{Holds, submission_of};
-ghost use Rattle.uses.specs.Playing.{next_of};
+ghost use Rattle.uses.specs.Examples.{next_of};
 
 use gen1_engine::BattleResult;
 use gen1_machine::Side;

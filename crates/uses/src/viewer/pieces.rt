@@ -1,7 +1,7 @@
 //! A log that comes in pieces, whose events are shown as soon as they are complete.
 // calling: gen1_events
 ghost use Rattle.std.specs.Prelude.{OnOk};
-ghost use Rattle.uses.specs.Viewing.{ShowsMore};
+ghost use Rattle.uses.specs.Examples.{ShowsMore};
 
 use crate::viewer::lines::show_event;
 use gen1_events::LogReader;

@@ -3,7 +3,7 @@
 ghost use Rattle.std.specs.Prelude.{IfOk, ◌≡◌};
 ghost use Rattle.std.specs.List.{flat_map};
 ghost use Rattle.gen1_machine.specs.View.{first_view, side_view};
-ghost use Rattle.uses.specs.Viewing.{shown_of, ShowsLog};
+ghost use Rattle.uses.specs.Examples.{shown_of, ShowsLog};
 
 use crate::viewer::pieces::show_piece;
 use gen1_events::LogReader;

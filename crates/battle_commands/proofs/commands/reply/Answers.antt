@@ -1,5 +1,5 @@
 use Rattle.std.proofs.Common.{Err, List, Ok, length, refl, subst, sym, ℕ, ◌<◌, ◌∙◌}
-use Rattle.battle_commands.proofs.Replying.{helps, not_both, refuses, said_is, says_asked, says_refused}
+use Rattle.battle_commands.proofs.Serving.{helps, not_both, refuses, said_is, says_asked, says_refused}
 use Rattle.battle_commands.proofs.commands.reply.Goals as goal
 
 pub returns-then-use_stderr-clause-says : goal.returns-then-use_stderr-clause-says

@@ -1,6 +1,6 @@
 use Rattle.std.proofs.Common.{ap, inl, inr, map, option_map, sym, ◌∙◌}
 use Rattle.clap.specs.Words.{App, has_subcommand, takes}
-use Rattle.battle_commands.proofs.Replying.{name_asked, rows_asked, some_same, error_replied, faultless, file_named, not_both, one_found, replies_unheld, unreplied}
+use Rattle.battle_commands.proofs.Serving.{name_asked, rows_asked, some_same, error_replied, faultless, file_named, not_both, one_found, replies_unheld, unreplied}
 use Rattle.battle_commands.proofs.commands.tool.Goals as goal
 
 pub returns-in_default-clause-ends : goal.returns-in_default-clause-ends

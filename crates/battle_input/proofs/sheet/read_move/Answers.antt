@@ -1,7 +1,7 @@
 use Rattle.std.proofs.Common.{rules, length, sym, ◌≡◌}
 use Rattle.std.proofs.lemmas.Result.{err_from_is_err_and}
 use Rattle.battle_input.specs.Sheets.{byte_of, move_name_of}
-use Rattle.battle_input.specs.declared.misfit.Step.TheVariants.{At}
+use Rattle.battle_input.specs.declared.fault.Step.TheVariants.{At}
 use Rattle.battle_input.proofs.Reading.{both_of_first, misfit_in}
 use Rattle.battle_input.proofs.sheet.read_move.Goals as goal
 

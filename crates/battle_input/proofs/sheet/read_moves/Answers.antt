@@ -2,7 +2,7 @@ use Rattle.std.proofs.Common.{length, rules, sym, ◌<◌, ◌≤◌, ◌∙◌}
 use Rattle.std.proofs.lemmas.Result.{err_from_is_err_and}
 use Rattle.serde_json.specs.View.{view}
 use Rattle.battle_input.specs.Sheets.{move_of}
-use Rattle.battle_input.specs.declared.misfit.Step.TheVariants.{At}
+use Rattle.battle_input.specs.declared.fault.Step.TheVariants.{At}
 use Rattle.battle_input.proofs.Reading.{each_of_stop, misfit_in, moves_from}
 use Rattle.battle_input.proofs.sheet.read_moves.Goals as goal
 

@@ -1,7 +1,7 @@
 use Rattle.std.proofs.Common.{Ok, length, rules, sym, ◌≡◌}
 use Rattle.std.proofs.lemmas.Result.{err_from_is_err_and}
 use Rattle.battle_input.specs.Sheets.{byte_of, long_of, side_of}
-use Rattle.battle_input.specs.declared.misfit.Step.TheVariants.{At}
+use Rattle.battle_input.specs.declared.fault.Step.TheVariants.{At}
 use Rattle.battle_input.proofs.Reading.{found_in, misfit_in, three_of_first, three_of_second}
 use Rattle.battle_input.proofs.sheet.read_submission.Goals as goal
 

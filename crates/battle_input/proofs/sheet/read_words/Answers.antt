@@ -1,7 +1,7 @@
 use Rattle.std.proofs.Common.{rules, arith, length, sym, ◌<◌, ◌≡◌, ◌∙◌}
 use Rattle.std.proofs.lemmas.Result.{err_from_is_err_and}
 use Rattle.battle_input.specs.Sheets.{word_of}
-use Rattle.battle_input.specs.declared.misfit.Step.TheVariants.{At}
+use Rattle.battle_input.specs.declared.fault.Step.TheVariants.{At}
 use Rattle.battle_input.proofs.Reading.{each_of_stop, misfit_in, numbers_from}
 use Rattle.battle_input.proofs.sheet.read_words.Goals as goal
 

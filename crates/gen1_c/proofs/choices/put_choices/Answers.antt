@@ -1,6 +1,6 @@
 use Rattle.std.proofs.Common.{List, [], arith, drop, length, refl, subst, sym, ◌++◌, ◌/◌, ◌∙◌, ◌≡◌, ◌≤◌}
-use Rattle.gen1_machine.specs.declared.choice.Choice.{Choice}
-use Rattle.gen1_offers.specs.OfferedMask.{all_choices, choices_in, chosen_by}
+use Rattle.gen1_machine.specs.declared.side.Choice.{Choice}
+use Rattle.gen1_offers.specs.OfferedChoices.{all_choices, choices_in, chosen_by}
 use Rattle.gen1_c.specs.Battle.{Offers}
 use Rattle.gen1_c.proofs.Writing.{four, four_first, four_written, offers_of, rest_four}
 use Rattle.gen1_c.proofs.choices.put_choices.Goals as goal

@@ -1,8 +1,8 @@
 -- The choices of the digits so far are written.
 use Rattle.std.proofs.Common.{List, drop, length, map, ℕ, ◌++◌, ◌≡◌, ◌≤◌}
-use Rattle.gen1_machine.specs.declared.choice.Choice.{Choice}
+use Rattle.gen1_machine.specs.declared.side.Choice.{Choice}
 use Rattle.gen1_machine.specs.Choices.{byte_of_choice}
-use Rattle.gen1_offers.specs.OfferedMask.{all_choices, chosen_by}
+use Rattle.gen1_offers.specs.OfferedChoices.{all_choices, chosen_by}
 use Rattle.gen1_c.specs.Battle.{IsWritten}
 use Rattle.gen1_c.proofs.Writing.{SoFar}
 use Rattle.gen1_c.proofs.choices.put_digits.Given as goal

@@ -1,6 +1,6 @@
 use Rattle.std.proofs.Common.{List, ap, length, subst, sym, ◌≤◌, ◌∙◌}
-use Rattle.gen1_machine.specs.declared.choice.Choice.{Choice}
-use Rattle.gen1_offers.specs.OfferedMask.{choices_in}
+use Rattle.gen1_machine.specs.declared.side.Choice.{Choice}
+use Rattle.gen1_offers.specs.OfferedChoices.{choices_in}
 use Rattle.gen1_offers.proofs.MaskChoices.{few_offered, offered_chosen}
 use Rattle.gen1_c.specs.Battle.{Offers}
 use Rattle.gen1_c.proofs.choices.put_offered.Goals as goal

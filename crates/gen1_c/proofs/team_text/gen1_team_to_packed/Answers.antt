@@ -1,10 +1,8 @@
 use Rattle.std.proofs.Common.{List, Ok, ap, arith, sym, ◌≡◌, ◌∙◌}
 use Rattle.gen1_stats.specs.Teams.{Sheet, team_of}
 use Rattle.gen1_text.specs.Packed.{team_packed}
-use Rattle.gen1_writer.specs.Export.{packed_of}
-use Rattle.gen1_writer.specs.Written.{write_refusal}
-use Rattle.gen1_c.proofs.WrittenTeams.{due_refusal, due_text, not_refused, sheets-of}
-use Rattle.gen1_c.proofs.Writing.{refused, written, written_back}
+use Rattle.gen1_writer.specs.Export.{packed_of, write_refusal}
+use Rattle.gen1_c.proofs.Writing.{due_refusal, due_text, not_refused, sheets-of, refused, written, written_back}
 use Rattle.gen1_c.proofs.team_text.gen1_team_to_packed.Goals as goal
 
 pub returns-in-Ok-clause-writes : goal.returns-in-Ok-clause-writes

@@ -1,5 +1,5 @@
 use Rattle.std.proofs.Common.{length, rules, ◌≡◌}
-use Rattle.gen1_c.proofs.WrittenTeams.{six_sheets}
+use Rattle.gen1_c.proofs.Writing.{six_sheets}
 use Rattle.gen1_c.proofs.teams.specs_of.Goals as goal
 
 pub returns : goal.returns

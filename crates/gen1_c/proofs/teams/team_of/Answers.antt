@@ -1,6 +1,6 @@
 use Rattle.std.proofs.Common.{ap, arith, sym, ◌≡◌, ◌∙◌}
 use Rattle.gen1_stats.specs.Teams.{team_of, team_refusal}
-use Rattle.gen1_c.proofs.WrittenTeams.{fault-none, fault-rules, sheets-of}
+use Rattle.gen1_c.proofs.Writing.{fault-none, fault-rules, sheets-of}
 use Rattle.gen1_c.proofs.teams.team_of.Goals as goal
 
 pub returns-in-Ok-clause-made : goal.returns-in-Ok-clause-made

@@ -6,8 +6,7 @@ use Rattle.gen1_machine.specs.Step.{events_of, run}
 use Rattle.gen1_machine.specs.View.{View, sees_all}
 use Rattle.gen1_machine.proofs.Spectators.{watcher_knows}
 use Rattle.gen1_events.specs.Reader.{Reading, IsReading}
-use Rattle.gen1_spectator.specs.Plain.{reading_of, view_of}
-use Rattle.gen1_spectator.specs.Following.{Followed, begun, joined, piece}
+use Rattle.gen1_spectator.specs.Plain.{reading_of, view_of, Followed, begun, joined, piece}
 use Rattle.gen1_spectator.proofs.Following.{followed_told, joined_reading, told_all, told_no_fault, joined_more, joined_rest, piece_bytes}
 use Rattle.gen1_c.proofs.the_theorem.feed.Goals as goal
 

@@ -1,7 +1,6 @@
 -- The spectator has followed the pieces so far.
 use Rattle.std.proofs.Common.{map, take}
-use Rattle.gen1_spectator.specs.Plain.{IsPlainSpectator, reading_of, view_of}
-use Rattle.gen1_spectator.specs.Following.{Followed, joined}
+use Rattle.gen1_spectator.specs.Plain.{IsPlainSpectator, reading_of, view_of, Followed, joined}
 use Rattle.gen1_spectator.proofs.Following.{piece_bytes}
 use Rattle.gen1_c.proofs.the_theorem.feed.Given as goal
 

@@ -2,10 +2,10 @@ use Rattle.std.proofs.Common.{Result, subst, sym, true, ◌∙◌, ◌≡◌}
 use Rattle.std.specs.Prelude.{IfOk, ◌↔◌}
 use Rattle.gen1_layout.specs.LoadingLaws.{IsBattle}
 use Rattle.gen1_layout.specs.Parts.{parts_of}
-use Rattle.gen1_states.specs.Bytes.{bytes_of}
+use Rattle.gen1_states.specs.Plain.{bytes_of}
 use Rattle.gen1_states.specs.Tests.{completed}
 use Rattle.gen1_states.specs.declared.plain.BattleState.{BattleState}
-use Rattle.gen1_guesses.specs.declared.fault.GuessFault.{GuessFault}
+use Rattle.gen1_guesses.specs.declared.guess.GuessFault.{GuessFault}
 use Rattle.gen1_guesses.proofs.forks.from_player.Goals as goal
 
 pub returns-in-Ok-clause-made : goal.returns-in-Ok-clause-made

@@ -1,7 +1,7 @@
 use Rattle.std.proofs.Common.{Ok, ap, length, sym, ◌∙◌}
 use Rattle.gen1_machine.specs.declared.side.Side.{Side}
 use Rattle.gen1_player.specs.Public.{public_side}
-use Rattle.gen1_guesses.specs.Members.{fresh_members}
+use Rattle.gen1_guesses.specs.Forks.{fresh_members}
 use Rattle.gen1_guesses.proofs.ForkedStates.{made}
 use Rattle.gen1_guesses.proofs.forks.guessed_for.Goals as goal
 

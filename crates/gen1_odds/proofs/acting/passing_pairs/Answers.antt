@@ -1,6 +1,6 @@
 use Rattle.std.proofs.Common.{Bool, ap, false, if◌then◌else◌, sym, true, ℕ, ◌*◌, ◌||◌, ◌∙◌, ◌≡◌}
 use Rattle.gen1_stats.specs.Members.{is_paralysed}
-use Rattle.gen1_machine.specs.declared.picks.Pick.{Pick}
+use Rattle.gen1_machine.specs.declared.side.Pick.{Pick}
 use Rattle.gen1_machine.specs.declared.side.Side.{Side}
 use Rattle.gen1_machine.specs.Picks.{is_idle}
 use Rattle.gen1_machine.specs.State.{conditions_in, status_in, Field}

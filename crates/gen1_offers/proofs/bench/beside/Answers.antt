@@ -1,5 +1,5 @@
 use Rattle.std.proofs.Common.{refl}
-use Rattle.gen1_offers.specs.OfferedMask.{living_of}
+use Rattle.gen1_offers.specs.OfferedChoices.{living_of}
 use Rattle.gen1_offers.proofs.bench.beside.Goals as goal
 
 pub returns-clause-digits : goal.returns-clause-digits

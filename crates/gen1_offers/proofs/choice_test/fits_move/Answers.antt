@@ -1,5 +1,5 @@
 use Rattle.std.proofs.Common.{sym, ◌≡◌, ◌∙◌}
-use Rattle.gen1_machine.specs.declared.choice.Choice.TheVariants as choices
+use Rattle.gen1_machine.specs.declared.side.Choice.TheVariants as choices
 use Rattle.gen1_machine.specs.declared.terms.Request.TheVariants as requests
 use Rattle.gen1_machine.specs.State.{request_of}
 use Rattle.gen1_layout.specs.Shows.{setting_of}

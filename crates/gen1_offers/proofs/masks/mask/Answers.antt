@@ -4,7 +4,7 @@ use Rattle.gen1_machine.specs.declared.terms.Request.TheVariants as requests
 use Rattle.gen1_machine.specs.OfferedChoices.{offered, offered_for}
 use Rattle.gen1_machine.specs.State.{request_of}
 use Rattle.gen1_layout.specs.Shows.{setting_of}
-use Rattle.gen1_offers.specs.OfferedMask.{mask_of}
+use Rattle.gen1_offers.specs.OfferedChoices.{mask_of}
 use Rattle.gen1_offers.proofs.OfferedSet.{packs_of, within_asked}
 use Rattle.gen1_offers.proofs.MaskDigits.{asks_move, asks_pass, asks_switch, goes_on}
 use Rattle.gen1_offers.proofs.masks.mask.Goals as goal

@@ -1,11 +1,11 @@
 use Rattle.std.proofs.Common.{Bool, List, ap, refl, sym, ℕ, ◌*◌, ◌++◌, ◌+◌, ◌∙◌}
-use Rattle.gen1_machine.specs.declared.choice.Choice.TheVariants as choices
+use Rattle.gen1_machine.specs.declared.side.Choice.TheVariants as choices
 use Rattle.gen1_machine.specs.Layout.{member_block, number_of_bits}
 use Rattle.gen1_machine.specs.OfferedChoices.{moves_offered}
 use Rattle.gen1_machine.specs.State.{member_at, party}
 use Rattle.gen1_machine.specs.Step.{is_among}
 use Rattle.gen1_layout.proofs.Steps.{packed_of}
-use Rattle.gen1_offers.specs.OfferedMask.{digits_of, living_of, mask_of, moves_and_pass, passing}
+use Rattle.gen1_offers.specs.OfferedChoices.{digits_of, living_of, mask_of, moves_and_pass, passing}
 use Rattle.gen1_offers.proofs.MaskDigits.{six_below, both_digits}
 use Rattle.gen1_offers.proofs.Benches.{out_is}
 use Rattle.gen1_offers.proofs.masks.mask_to_move.Goals as goal

@@ -3,7 +3,7 @@ use Rattle.gen1_machine.specs.declared.terms.Request.{Request}
 use Rattle.gen1_machine.specs.State.{is_over}
 use Rattle.gen1_machine.specs.OfferedChoices.{offered, offered_for}
 use Rattle.gen1_layout.specs.Shows.{setting_of}
-use Rattle.gen1_offers.specs.OfferedMask.{mask_of}
+use Rattle.gen1_offers.specs.OfferedChoices.{mask_of}
 use Rattle.gen1_offers.proofs.OfferedSet.{is_over_unless, packs_of}
 use Rattle.gen1_offers.proofs.masks.mask_to_pass.Goals as goal
 

@@ -1,6 +1,6 @@
 use Rattle.std.proofs.Common.{Bool, List, [], ap, arith, false, sym, ℕ, ◌*◌, ◌++◌, ◌+◌, ◌≡◌, ◌∙◌, ◌∷◌}
 use Rattle.gen1_machine.specs.Layout.{number_of_bits}
-use Rattle.gen1_offers.specs.OfferedMask.{living_of, mask_of, passing}
+use Rattle.gen1_offers.specs.OfferedChoices.{living_of, mask_of, passing}
 use Rattle.gen1_offers.proofs.MaskDigits.{six_below, switch_digits}
 use Rattle.gen1_offers.proofs.Benches.{out_is}
 use Rattle.gen1_offers.proofs.masks.mask_to_switch.Goals as goal

@@ -2,7 +2,7 @@ use Rattle.std.proofs.Common.{Bool, List, ap, arith, false, sym, ℕ, ◌*◌, �
 use Rattle.gen1_machine.specs.Layout.{number_of_bits}
 use Rattle.gen1_machine.specs.State.{conditions_in, member_in}
 use Rattle.gen1_layout.proofs.Steps.{member_ok}
-use Rattle.gen1_offers.specs.OfferedMask.{is_usable, usable_of}
+use Rattle.gen1_offers.specs.OfferedChoices.{is_usable, usable_of}
 use Rattle.gen1_offers.proofs.OfferedSet.{usable-behind}
 use Rattle.gen1_offers.proofs.MaskDigits.{move_digits, no_slot_digits, nothing_usable, something_usable, struggle_digits}
 use Rattle.std.proofs.Common.{get_or}

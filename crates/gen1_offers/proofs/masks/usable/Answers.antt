@@ -1,5 +1,5 @@
 use Rattle.std.proofs.Common.{Option, Some, arith, nat_lt, subst, ◌≤◌}
-use Rattle.gen1_machine.specs.declared.picks.DisabledSlot.{DisabledSlot}
+use Rattle.gen1_machine.specs.declared.side.DisabledSlot.{DisabledSlot}
 use Rattle.gen1_machine.specs.State.{known_in, member_in, conditions_in}
 use Rattle.gen1_layout.specs.Shows.{IsStorableDisabled}
 use Rattle.gen1_layout.proofs.Steps.{party_in, member_ok}

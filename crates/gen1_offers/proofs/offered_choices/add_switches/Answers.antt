@@ -1,6 +1,6 @@
 use Rattle.std.proofs.Common.{List, ap, arith, length, ℕ, ◌++◌, ◌-◌, ◌≡◌, ◌∙◌}
-use Rattle.gen1_machine.specs.declared.choice.Choice.{Choice}
-use Rattle.gen1_machine.specs.declared.choice.Choice.TheVariants as choices
+use Rattle.gen1_machine.specs.declared.side.Choice.{Choice}
+use Rattle.gen1_machine.specs.declared.side.Choice.TheVariants as choices
 use Rattle.gen1_machine.specs.State.{party}
 use Rattle.gen1_machine.specs.OfferedChoices.{others_living_from}
 use Rattle.gen1_layout.proofs.Steps.{party_in}

@@ -1,5 +1,5 @@
 use Rattle.std.proofs.Common.{List, ap, ◌++◌, ◌∙◌}
-use Rattle.gen1_machine.specs.declared.choice.Choice.{Choice}
+use Rattle.gen1_machine.specs.declared.side.Choice.{Choice}
 use Rattle.gen1_machine.specs.OfferedChoices.{switches_offered}
 use Rattle.gen1_offers.proofs.offered_choices.offered_to_switch.Goals as goal
 

@@ -1,5 +1,5 @@
 use Rattle.std.proofs.Common.{[], ap, arith, ℕ, ◌-◌, ◌≡◌, ◌∙◌}
-use Rattle.gen1_machine.specs.declared.choice.Choice.TheVariants as choices
+use Rattle.gen1_machine.specs.declared.side.Choice.TheVariants as choices
 use Rattle.gen1_layout.proofs.Steps.{member_ok}
 use Rattle.gen1_offers.proofs.OfferedSet.{at_most_one_more, collect, collected_more, slots_usable, usable_at}
 use Rattle.gen1_offers.proofs.offered_choices.usable_moves.Goals as goal

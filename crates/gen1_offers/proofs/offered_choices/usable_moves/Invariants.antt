@@ -1,6 +1,6 @@
 -- The usable moves of the slots so far are there.
 use Rattle.std.proofs.Common.{length, ◌-◌, ◌≡◌, ◌≤◌}
-use Rattle.gen1_machine.specs.declared.choice.Choice.TheVariants as choices
+use Rattle.gen1_machine.specs.declared.side.Choice.TheVariants as choices
 use Rattle.gen1_machine.specs.State.{Field}
 use Rattle.gen1_layout.specs.Shows.{Setting, Within}
 use Rattle.gen1_offers.proofs.OfferedSet.{collect, usable_at}

@@ -1,7 +1,7 @@
 use Rattle.std.proofs.Common.{ap, arith, cond, min, sym, Bool, ℕ, ◌*◌, ◌==◌, ◌≡◌, ◌≤◌, ◌∙◌}
 use Rattle.std.proofs.Math.Nat.{mul-le-mul_left}
-use Rattle.gen1_rolls.specs.declared.look.Look.{Look}
-use Rattle.gen1_rolls.specs.declared.look.Look.TheVariants.{Factor}
+use Rattle.gen1_rolls.specs.declared.rolls.Look.{Look}
+use Rattle.gen1_rolls.specs.declared.rolls.Look.TheVariants.{Factor}
 use Rattle.gen1_rolls.specs.Streams.{rotated_right_1, sees}
 use Rattle.gen1_outcomes.specs.Bytes.{has, alike_in, damage_by, part_told}
 use Rattle.gen1_outcomes.proofs.alike.alike_to.Goals as goal

@@ -2,7 +2,7 @@ use Rattle.std.proofs.Common.{◌≡◌, ap, subst}
 use Rattle.std.proofs.lemmas.Bool.{false≢true}
 use Rattle.gen1_layout.proofs.Words.{Bool, Frame, Parts, Phase, Progress, Shows, ShowsDrawn, Side, drawn_as_list, drawn_from_list, false, on_conditions, quietly, refl, still, sym, then-goes, true, ℕ, ◌∙◌}
 use Rattle.gen1_rolls.specs.Draws.{Drawing, Source, by_then}
-use Rattle.gen1_machine.specs.declared.picks.Pick.{Pick}
+use Rattle.gen1_machine.specs.declared.side.Pick.{Pick}
 use Rattle.gen1_machine.specs.declared.side.Side.TheVariants.{One, Two}
 use Rattle.gen1_machine.specs.declared.terms.Request.TheVariants as requests
 use Rattle.gen1_machine.specs.Conditions.{without_flinch}
@@ -20,10 +20,10 @@ use Rattle.gen1_layout.specs.Shows.{setting_of}
 use Rattle.gen1_layout.proofs.Storing.{within_of}
 use Rattle.gen1_hits.specs.declared.known.Known.{Known}
 use Rattle.gen1_hits.specs.Knowing.{ShowsOver, knowing, nothing_yet, with_broke}
-use Rattle.gen1_switching.specs.Updates.{drawing_on}
+use Rattle.gen1_switching.specs.SwitchingIn.{drawing_on}
 use Rattle.gen1_hits.specs.Planned.{Follows}
 use Rattle.gen1_switching.proofs.Stepped.{planned, reopened, started}
-use Rattle.gen1_turn.specs.TurnParts.{PartLeaves}
+use Rattle.gen1_turn.specs.TwoParts.{PartLeaves}
 use Rattle.gen1_turn.proofs.Turns.{flinch-planned, picked-both, picked-fits, play-moves}
 use Rattle.gen1_outcomes.specs.Beginning.{Begins, picked, second_action, unflinched}
 use Rattle.gen1_outcomes.specs.Listing.{untold}

@@ -12,11 +12,10 @@ use Rattle.gen1_machine.specs.Ruling.{ruling_of}
 use Rattle.gen1_hits.specs.declared.known.Known.{Known}
 use Rattle.gen1_hits.specs.Knowing.{ShowsKnown, knowing}
 use Rattle.gen1_turn.specs.declared.action.two_parts.Roll.{Roll}
-use Rattle.gen1_turn.specs.Damage.{LikeDamage}
+use Rattle.gen1_turn.specs.Action.{LikeDamage}
 use Rattle.gen1_turn.specs.TwoParts.{from_test, known_at}
 use Rattle.gen1_turn.proofs.TwoParts.{like-drawn}
-use Rattle.gen1_outcomes.specs.Exchanged.{IsShownAt, roll_if_hit}
-use Rattle.gen1_outcomes.specs.Listing.{untold}
+use Rattle.gen1_outcomes.specs.Listing.{IsShownAt, roll_if_hit, untold}
 use Rattle.gen1_outcomes.proofs.Closing.{closes_turn}
 use Rattle.gen1_outcomes.proofs.beginning.end_roll.Goals as goal
 

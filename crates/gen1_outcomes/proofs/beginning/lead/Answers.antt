@@ -8,7 +8,7 @@ use Rattle.gen1_machine.specs.Ruling.{ruling_of}
 use Rattle.gen1_machine.specs.Step.{close_update}
 use Rattle.gen1_machine.specs.Turn.{Acts, do_part, do_parts, end_turn}
 use Rattle.gen1_machine.proofs.Acts.{begin-keeps}
-use Rattle.gen1_turn.specs.TurnParts.{suffering}
+use Rattle.gen1_turn.specs.TwoParts.{suffering}
 use Rattle.gen1_outcomes.specs.Beginning.{second_action}
 use Rattle.gen1_outcomes.proofs.Closing.{acts_again, closes_turn}
 use Rattle.gen1_outcomes.proofs.beginning.lead.Goals as goal

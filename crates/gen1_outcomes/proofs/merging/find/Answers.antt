@@ -3,7 +3,7 @@ use Rattle.std.proofs.Math.Nat.{mod-lt}
 use Rattle.std.proofs.lemmas.List.{get_or_default}
 use Rattle.gen1_layout.specs.Parts.{joined}
 use Rattle.gen1_outcomes.specs.declared.successor.Successor.{Successor}
-use Rattle.gen1_outcomes.specs.Merging.{hash_of}
+use Rattle.gen1_outcomes.specs.Middles.{hash_of}
 use Rattle.gen1_outcomes.proofs.Lists.{all_taken}
 use Rattle.gen1_outcomes.proofs.Table.{IsNext, absent, first_at, first_taken, next_at, next_taken, next_within, other_battle, others_more, past_more}
 use Rattle.gen1_outcomes.proofs.merging.find.Goals.{else-number-successors-via-else-number-successors, else-number-successors-via-then-number-successors+else-are_equal, else-slot-table, then-slot-table}

@@ -2,7 +2,7 @@ use Rattle.std.proofs.Common.{ℕ, ◌+◌, ◌<◌, ◌≡◌, ◌≢◌, lengt
 use Rattle.gen1_layout.specs.Parts.{joined}
 use Rattle.gen1_outcomes.specs.declared.successor.Successor.{Successor}
 use Rattle.gen1_outcomes.specs.Listing.{battle_at}
-use Rattle.gen1_outcomes.specs.Merging.{slot_of}
+use Rattle.gen1_outcomes.specs.Middles.{slot_of}
 use Rattle.gen1_outcomes.proofs.Lists.{AreTaken}
 use Rattle.gen1_outcomes.proofs.merging.find.Given as goal
 

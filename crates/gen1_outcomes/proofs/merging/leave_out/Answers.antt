@@ -1,5 +1,5 @@
 use Rattle.std.proofs.Common.{subst, sym, ℕ}
-use Rattle.gen1_outcomes.specs.Shares.{IsLeft}
+use Rattle.gen1_outcomes.specs.Weights.{IsLeft}
 use Rattle.gen1_outcomes.proofs.Shares.{is_left}
 use Rattle.gen1_outcomes.proofs.merging.leave_out.Goals as goal
 

@@ -1,6 +1,6 @@
 use Rattle.std.proofs.Common.{arith, subst, sym, ◌∙◌}
 use Rattle.gen1_outcomes.specs.declared.merging.Tally.{Tally}
-use Rattle.gen1_outcomes.specs.Shares.{KeepsShares}
+use Rattle.gen1_outcomes.specs.Weights.{KeepsShares}
 use Rattle.gen1_outcomes.proofs.Shares.{keeps_scaled, rest_less, scaled_more}
 use Rattle.gen1_outcomes.proofs.merging.scale.Goals as goal
 

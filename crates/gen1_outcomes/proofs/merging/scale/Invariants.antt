@@ -2,8 +2,8 @@ use Rattle.std.proofs.Common.{ℕ, ◌*◌, ◌<◌, ◌≡◌, ◌≤◌}
 use Rattle.std.specs.Prelude.{slice_index_or}
 use Rattle.gen1_outcomes.specs.declared.successor.Successor.{Successor}
 use Rattle.gen1_outcomes.specs.Listing.{AreThose}
-use Rattle.gen1_outcomes.specs.Merging.{LeavesOut}
-use Rattle.gen1_outcomes.specs.Shares.{weight_at}
+use Rattle.gen1_outcomes.specs.Middles.{LeavesOut}
+use Rattle.gen1_outcomes.specs.Weights.{weight_at}
 use Rattle.gen1_outcomes.proofs.merging.scale.Given as goal
 
 abbrev pub invariant-places : goal.invariant-places

@@ -1,10 +1,8 @@
 use Rattle.std.proofs.Common.{length, ◌≡◌, ◌≤◌}
 use Rattle.gen1_outcomes.specs.Complete.{IsExact}
 use Rattle.gen1_outcomes.specs.Listing.{StillFollow}
-use Rattle.gen1_outcomes.specs.Middles.{AreReached}
-use Rattle.gen1_outcomes.specs.Merging.{IsIndexed, LeavesOut, StayIndexed}
-use Rattle.gen1_outcomes.specs.Shares.{StayProbable, TakesEach}
-use Rattle.gen1_outcomes.specs.Weights.{AreEqual, of_chance, unit}
+use Rattle.gen1_outcomes.specs.Middles.{AreReached, IsIndexed, LeavesOut, StayIndexed}
+use Rattle.gen1_outcomes.specs.Weights.{StayProbable, TakesEach, AreEqual, of_chance, unit}
 use Rattle.gen1_outcomes.proofs.Complete.{IsGoingIn}
 use Rattle.gen1_outcomes.proofs.Stages.{AreGoing}
 use Rattle.gen1_outcomes.proofs.outcomes.add_in_parts.Given as goal

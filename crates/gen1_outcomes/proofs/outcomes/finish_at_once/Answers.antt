@@ -1,5 +1,5 @@
 use Rattle.std.proofs.Common.{arith, refl, subst, sym, ◌∙◌, ℕ}
-use Rattle.gen1_outcomes.specs.Merging.{IsIndexed}
+use Rattle.gen1_outcomes.specs.Middles.{IsIndexed}
 use Rattle.gen1_outcomes.proofs.Complete.{extends_more, extends_none, extends_then, going_first, going_on}
 use Rattle.gen1_outcomes.proofs.Lists.{still_more}
 use Rattle.gen1_outcomes.proofs.PlayedLists.{adds_played, listed_by, played_more}

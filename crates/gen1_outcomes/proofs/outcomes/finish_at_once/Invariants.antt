@@ -2,8 +2,8 @@ use Rattle.std.proofs.Common.{length, ◌≡◌, ◌≤◌}
 use Rattle.gen1_machine.specs.State.{State}
 use Rattle.gen1_outcomes.specs.Complete.{Extends, IsExact, Offers}
 use Rattle.gen1_outcomes.specs.Listing.{StillFollow}
-use Rattle.gen1_outcomes.specs.Merging.{IsIndexed, LeavesOut, StayIndexed}
-use Rattle.gen1_outcomes.specs.Shares.{CountsEach, StayProbable, TakesEach}
+use Rattle.gen1_outcomes.specs.Middles.{IsIndexed, LeavesOut, StayIndexed}
+use Rattle.gen1_outcomes.specs.Weights.{CountsEach, StayProbable, TakesEach}
 use Rattle.gen1_outcomes.proofs.PlayedLists.{IsGoingBy}
 use Rattle.gen1_outcomes.proofs.Weights.{IsTreePlayed, IsWeighedFrom, by_test}
 use Rattle.gen1_outcomes.proofs.outcomes.finish_at_once.Given as goal

@@ -2,9 +2,8 @@ use Rattle.std.proofs.Common.{length, ◌≡◌, ◌≤◌}
 use Rattle.gen1_machine.specs.State.{State}
 use Rattle.gen1_outcomes.specs.Complete.{Extends, IsExact, Offers}
 use Rattle.gen1_outcomes.specs.Listing.{StillFollow}
-use Rattle.gen1_outcomes.specs.Merging.{IsIndexed, LeavesOut, StayIndexed}
-use Rattle.gen1_outcomes.specs.Shares.{CountsEach, StayProbable, TakesEach}
-use Rattle.gen1_outcomes.specs.Weights.{IsTreeFrom}
+use Rattle.gen1_outcomes.specs.Middles.{IsIndexed, LeavesOut, StayIndexed}
+use Rattle.gen1_outcomes.specs.Weights.{CountsEach, StayProbable, TakesEach, IsTreeFrom}
 use Rattle.gen1_outcomes.proofs.Complete.{IsGoingFrom}
 use Rattle.gen1_outcomes.proofs.Weights.{IsWeighedFrom, by_bytes}
 use Rattle.gen1_outcomes.proofs.outcomes.finish_in_parts.Given as goal

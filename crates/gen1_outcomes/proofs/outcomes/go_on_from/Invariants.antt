@@ -1,8 +1,8 @@
 use Rattle.std.proofs.Common.{length, ◌≡◌, ◌≤◌}
 use Rattle.gen1_outcomes.specs.Complete.{Extends, IsExact}
 use Rattle.gen1_outcomes.specs.Listing.{StillFollow}
-use Rattle.gen1_outcomes.specs.Merging.{IsIndexed, LeavesOut, StayIndexed}
-use Rattle.gen1_outcomes.specs.Shares.{StayProbable, TakesEach}
+use Rattle.gen1_outcomes.specs.Middles.{IsIndexed, LeavesOut, StayIndexed}
+use Rattle.gen1_outcomes.specs.Weights.{StayProbable, TakesEach}
 use Rattle.gen1_outcomes.proofs.Complete.{ListsFromEach}
 use Rattle.gen1_outcomes.proofs.Stages.{AddsFirst}
 use Rattle.gen1_outcomes.proofs.outcomes.go_on_from.Given as goal

@@ -1,5 +1,5 @@
 use Rattle.std.proofs.Common.{ap, arith, refl, ◌∙◌}
-use Rattle.gen1_outcomes.specs.declared.options.OutcomeOptions.{OutcomeOptions}
+use Rattle.gen1_outcomes.specs.declared.successor.OutcomeOptions.{OutcomeOptions}
 use Rattle.gen1_outcomes.proofs.Complete.{finished_every}
 use Rattle.gen1_outcomes.proofs.Lists.{finished_follows}
 use Rattle.gen1_outcomes.proofs.Shares.{finished_all, finished_left, finished_probable, none_probable}

@@ -1,7 +1,7 @@
 use Rattle.std.proofs.Common.{Bool, List, Some, ◌⊎◌, ◌≡◌, ap, not, refl, rules, subst, sym, ◌∙◌}
 use Rattle.std.specs.Borrow.{GName}
 use Rattle.std.specs.Int.{from_bool}
-use Rattle.gen1_machine.specs.declared.choice.Choice.{Choice}
+use Rattle.gen1_machine.specs.declared.side.Choice.{Choice}
 use Rattle.gen1_machine.specs.State.{State}
 use Rattle.gen1_layout.specs.Parts.{Parts}
 use Rattle.gen1_layout.specs.Shows.{Stands}
@@ -10,9 +10,8 @@ use Rattle.gen1_engine.specs.Update.{AreOffered}
 use Rattle.gen1_outcomes.specs.declared.log.Entry.{Entry}
 use Rattle.gen1_outcomes.specs.declared.nodes.Nodes.{Nodes}
 use Rattle.gen1_outcomes.specs.declared.plain.PlainWalk.{PlainWalk}
-use Rattle.gen1_outcomes.specs.Following.{Leads}
+use Rattle.gen1_outcomes.specs.Plain.{Leads, EndsWith, GoesOnTo, PlaysPlain}
 use Rattle.gen1_outcomes.specs.Nodes.{IsChance}
-use Rattle.gen1_outcomes.specs.Plain.{EndsWith, GoesOnTo, PlaysPlain}
 use Rattle.gen1_outcomes.proofs.Logs.{leads_of, logged_by, same_place}
 use Rattle.gen1_outcomes.proofs.Offered.{can_follow, leads_pair, way_as}
 use Rattle.gen1_outcomes.proofs.Walking.{next_is}

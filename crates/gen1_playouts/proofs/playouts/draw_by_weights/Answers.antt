@@ -1,7 +1,7 @@
 use Rattle.std.proofs.Common.{ap, arith, inr, length, ℕ, ◌∙◌, ◌≡◌, ◌≤◌}
 use Rattle.gen1_machine.specs.OfferedChoices.{offered}
 use Rattle.gen1_layout.specs.Shows.{setting_of}
-use Rattle.gen1_offers.specs.OfferedMask.{choices_in}
+use Rattle.gen1_offers.specs.OfferedChoices.{choices_in}
 use Rattle.gen1_offers.proofs.MaskChoices.{offered_chosen}
 use Rattle.gen1_playouts.specs.Playouts.{weight_in}
 use Rattle.gen1_playouts.proofs.Playing.{drawn-alike, drawn-weighted, within-several}

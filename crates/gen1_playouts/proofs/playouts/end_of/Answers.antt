@@ -1,6 +1,6 @@
 use Rattle.std.proofs.Common.{subst, sym}
 use Rattle.gen1_rolls.specs.Steady.{ring_of}
-use Rattle.gen1_engine.specs.Reseed.{reseeded}
+use Rattle.gen1_engine.specs.Update.{reseeded}
 use Rattle.gen1_layout.specs.Parts.{Parts}
 use Rattle.gen1_layout.specs.Shows.{Stands}
 use Rattle.gen1_playouts.proofs.Playing.{begins-with, plays-round}

@@ -7,12 +7,12 @@ use Rattle.gen1_machine.specs.State.{State, is_over}
 use Rattle.gen1_machine.specs.Step.{run, run_by, step}
 use Rattle.gen1_machine.proofs.RunsEnd.{runs_end}
 use Rattle.gen1_layout.specs.Shows.{Stands, setting_of}
-use Rattle.gen1_offers.specs.OfferedMask.{IsBench}
+use Rattle.gen1_offers.specs.OfferedChoices.{IsBench}
 use Rattle.gen1_offers.proofs.OfferedSet.{packs_of}
 use Rattle.gen1_engine.specs.Update.{AreOffered}
 use Rattle.gen1_engine.specs.declared.result.BattleResult.{BattleResult}
 use Rattle.gen1_playouts.specs.Playouts.{IsDrawn, Playout, drawn_from, end_in, most_updates, played}
-use Rattle.gen1_engine.proofs.Offers.{accepts-more, accepts-none}
+use Rattle.gen1_engine.proofs.Making.{accepts-more, accepts-none}
 use Rattle.gen1_playouts.proofs.Playing.{end-over, ended, most-either, offers-drawn, plays-next, plays_on-more, plays_on-none, AreBenches, FollowsOn, follow-update, ran-more}
 use Rattle.gen1_playouts.proofs.playouts.run.Goals as goal
 

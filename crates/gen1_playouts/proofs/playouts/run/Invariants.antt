@@ -3,7 +3,7 @@ use Rattle.std.proofs.Common.{◌≡◌}
 use Rattle.gen1_machine.specs.declared.side.Side.TheVariants.{One, Two}
 use Rattle.gen1_machine.specs.State.{State}
 use Rattle.gen1_layout.specs.Shows.{Stands}
-use Rattle.gen1_offers.specs.OfferedMask.{IsInRange}
+use Rattle.gen1_offers.specs.OfferedChoices.{IsInRange}
 use Rattle.gen1_playouts.proofs.Playing.{Rounds}
 use Rattle.gen1_playouts.proofs.playouts.run.Given as goal
 

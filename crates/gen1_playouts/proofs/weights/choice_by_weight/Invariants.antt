@@ -1,7 +1,7 @@
 -- What is looked for is at an index of the copies that are still to come.
 use Rattle.std.proofs.Common.{drop, length, map, ℕ, ◌<◌, ◌≡◌, ◌≤◌}
-use Rattle.gen1_machine.specs.declared.choice.Choice.{Choice}
-use Rattle.gen1_offers.specs.OfferedMask.{all_choices, chosen_by}
+use Rattle.gen1_machine.specs.declared.side.Choice.{Choice}
+use Rattle.gen1_offers.specs.OfferedChoices.{all_choices, chosen_by}
 use Rattle.gen1_playouts.specs.Playouts.{repeated}
 use Rattle.gen1_playouts.proofs.Playing.{IsLeft}
 use Rattle.gen1_playouts.proofs.weights.choice_by_weight.Given as goal

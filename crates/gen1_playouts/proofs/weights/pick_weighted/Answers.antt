@@ -1,7 +1,7 @@
 use Rattle.std.proofs.Common.{List, ap, arith, get_or, length, subst, sym, ◌<◌, ◌%◌, ◌/◌, ◌^◌, ◌≡◌, ◌≢◌, ◌∙◌}
-use Rattle.gen1_machine.specs.declared.choice.Choice.{Choice}
-use Rattle.gen1_machine.specs.declared.choice.Choice.TheVariants.{Pass}
-use Rattle.gen1_offers.specs.OfferedMask.{choices_in}
+use Rattle.gen1_machine.specs.declared.side.Choice.{Choice}
+use Rattle.gen1_machine.specs.declared.side.Choice.TheVariants.{Pass}
+use Rattle.gen1_offers.specs.OfferedChoices.{choices_in}
 use Rattle.gen1_playouts.specs.Playouts.{IsDrawn, choice_by, next_state, repeated}
 use Rattle.gen1_playouts.proofs.Playing.{weighted-none, weighted-some}
 use Rattle.gen1_playouts.proofs.weights.pick_weighted.Goals as goal

@@ -1,5 +1,5 @@
 use Rattle.std.proofs.Common.{ap, arith, drop, length, ℕ, ◌+◌, ◌≡◌}
-use Rattle.gen1_offers.specs.OfferedMask.{all_choices, choices_in, chosen_by}
+use Rattle.gen1_offers.specs.OfferedChoices.{all_choices, choices_in, chosen_by}
 use Rattle.gen1_playouts.specs.Playouts.{repeated}
 use Rattle.gen1_playouts.proofs.Playing.{length-first, weight-listed}
 use Rattle.gen1_playouts.proofs.weights.sum_of.Goals as goal

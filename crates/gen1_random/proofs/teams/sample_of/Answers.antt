@@ -1,6 +1,6 @@
 use Rattle.std.proofs.Common.{ap, arith, ℕ, ◌+◌, ◌-◌, ◌∙◌, ◌≡◌}
 use Rattle.gen1_random.proofs.Drawing.{row-drawn}
-use Rattle.gen1_random.specs.declared.pools.Pool.TheVariants.{Samples}
+use Rattle.gen1_random.specs.declared.teams.Pool.TheVariants.{Samples}
 use Rattle.gen1_random.specs.Teams.{numbers_in, sample, sheet_of, taken}
 use Rattle.gen1_random.proofs.teams.sample_of.Goals as goal
 

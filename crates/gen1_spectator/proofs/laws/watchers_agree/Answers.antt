@@ -6,7 +6,7 @@ use Rattle.gen1_machine.specs.Step.{events_of, run}
 use Rattle.gen1_machine.specs.View.{first_view, sees_all}
 use Rattle.gen1_machine.proofs.Spectators.{watcher_knows}
 use Rattle.gen1_events.proofs.Readings.{one_split, reading_splits, reads_part}
-use Rattle.gen1_spectator.specs.Following.{joined}
+use Rattle.gen1_spectator.specs.Plain.{joined}
 use Rattle.gen1_spectator.proofs.Following.{joined_reading}
 use Rattle.gen1_spectator.proofs.laws.watchers_agree.Goals as goal
 

@@ -1,5 +1,5 @@
 use Rattle.std.proofs.Common.{refl}
-use Rattle.gen1_states.specs.Bytes.{side_after}
+use Rattle.gen1_states.specs.Plain.{side_after}
 use Rattle.gen1_states.proofs.bytes.put_side.Goals as goal
 
 pub returns-clause-items : goal.returns-clause-items

@@ -2,9 +2,9 @@ use Rattle.std.proofs.Common.{List, ap, subst, true, ℕ, ◌≡◌, ◌∙◌}
 use Rattle.gen1_layout.specs.Loading.{version_three}
 use Rattle.gen1_layout.specs.LoadingLaws.{IsBattle}
 use Rattle.gen1_layout.specs.Parts.{parts_of}
-use Rattle.gen1_states.specs.Bytes.{bytes_of}
+use Rattle.gen1_states.specs.Plain.{bytes_of}
 use Rattle.gen1_states.specs.Tests.{completed}
-use Rattle.gen1_states.proofs.Going.{in_version_three}
+use Rattle.gen1_states.proofs.There.{in_version_three}
 use Rattle.gen1_states.proofs.writing.from_state.Goals as goal
 
 pub returns-in-Ok-clause-accepts : goal.returns-in-Ok-clause-accepts

@@ -1,5 +1,5 @@
 use Rattle.std.proofs.Common.{arith, rules}
-use Rattle.gen1_stats.specs.declared.known_move.KnownMove.{KnownMove}
+use Rattle.gen1_stats.specs.declared.member.KnownMove.{KnownMove}
 use Rattle.gen1_stats.specs.Members.{IsBetween}
 use Rattle.gen1_stats.proofs.Ranges.{All-push}
 use Rattle.gen1_stats.proofs.member.known_moves.Goals as goal

@@ -1,5 +1,5 @@
 use Rattle.std.proofs.Common.{All, map, take, ◌≡◌}
-use Rattle.gen1_stats.specs.declared.known_move.KnownMove.{KnownMove}
+use Rattle.gen1_stats.specs.declared.member.KnownMove.{KnownMove}
 use Rattle.gen1_stats.specs.Members.{IsBetween}
 use Rattle.gen1_stats.specs.Teams.{known_of}
 use Rattle.gen1_stats.proofs.member.known_moves.Given as goal

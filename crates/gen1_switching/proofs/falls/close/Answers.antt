@@ -1,7 +1,7 @@
 use Rattle.std.proofs.Common.{◌≡◌, ◌∙◌}
 use Rattle.gen1_layout.proofs.Words.{None, Some, ap, false, sym}
 use Rattle.gen1_machine.specs.Ruling.{ruling_of}
-use Rattle.gen1_switching.specs.Updates.{fault_in}
+use Rattle.gen1_switching.specs.SwitchingIn.{fault_in}
 use Rattle.gen1_switching.proofs.Closed.{closes, closes_fault, fault_range}
 use Rattle.gen1_switching.proofs.falls.close.Goals as goal
 

@@ -1,5 +1,5 @@
 use Rattle.std.proofs.Common.{◌≡◌, length}
-use Rattle.gen1_text.specs.Words.{has_inside}
+use Rattle.gen1_text.specs.MemberLines.{has_inside}
 use Rattle.gen1_text.proofs.cuts.has_inside.Given as goal
 
 abbrev pub invariant-loop-others : goal.invariant-loop-others

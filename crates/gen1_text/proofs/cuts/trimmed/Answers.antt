@@ -1,6 +1,6 @@
 use Rattle.std.proofs.Common.{refl}
 use Rattle.std.proofs.lemmas.Str.Ascii.{trim_ascii_is}
-use Rattle.gen1_text.specs.Words.{trimmed}
+use Rattle.gen1_text.specs.MemberLines.{trimmed}
 use Rattle.gen1_text.proofs.cuts.trimmed.Goals as goal
 
 pub returns : goal.returns

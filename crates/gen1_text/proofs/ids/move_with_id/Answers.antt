@@ -1,6 +1,6 @@
 use Rattle.std.proofs.Common.{Some, ap, arith, sym, ◌∙◌}
 use Rattle.gen1_tables.specs.Names.{move_name}
-use Rattle.gen1_text.proofs.IdLemmas.{name_tested, numbered, move_found, move_missing, move_more}
+use Rattle.gen1_text.proofs.TextLemmas.{name_tested, numbered, move_found, move_missing, move_more}
 use Rattle.gen1_text.proofs.ids.move_with_id.Goals as goal
 
 pub returns-then-has_same_id : goal.returns-then-has_same_id

@@ -1,6 +1,6 @@
 use Rattle.std.proofs.Common.{◌≡◌, length}
 use Rattle.gen1_text.specs.Ids.{id_of}
-use Rattle.gen1_text.specs.Words.{text_after}
+use Rattle.gen1_text.specs.MemberLines.{text_after}
 use Rattle.gen1_text.proofs.ids.rest_after.Given as goal
 
 abbrev pub invariant-loop-letter : goal.invariant-loop-letter

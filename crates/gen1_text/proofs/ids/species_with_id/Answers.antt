@@ -1,6 +1,6 @@
 use Rattle.std.proofs.Common.{Some, ap, arith, sym, ◌∙◌}
 use Rattle.gen1_tables.specs.Names.{species_name}
-use Rattle.gen1_text.proofs.IdLemmas.{name_tested, numbered, species_found, species_missing, species_more}
+use Rattle.gen1_text.proofs.TextLemmas.{name_tested, numbered, species_found, species_missing, species_more}
 use Rattle.gen1_text.proofs.ids.species_with_id.Goals as goal
 
 pub returns-then-has_same_id : goal.returns-then-has_same_id

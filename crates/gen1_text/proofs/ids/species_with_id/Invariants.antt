@@ -1,5 +1,5 @@
 use Rattle.gen1_tables.specs.Names.{species_names}
-use Rattle.gen1_text.proofs.IdLemmas.{NoneBefore}
+use Rattle.gen1_text.proofs.TextLemmas.{NoneBefore}
 use Rattle.gen1_text.proofs.ids.species_with_id.Given as goal
 
 abbrev pub invariant-loop-number : goal.invariant-loop-number

@@ -3,7 +3,7 @@ use Rattle.std.proofs.lemmas.Bool.Decides.{nat_tests}
 use Rattle.std.proofs.lemmas.Grind.{common_steps}
 use Rattle.std.proofs.lemmas.Result.{err_from_is_err_and}
 use Rattle.gen1_text.specs.Packed.{members_packed, unpacked}
-use Rattle.gen1_text.specs.Words.{pieces_left, behind}
+use Rattle.gen1_text.specs.MemberLines.{pieces_left, behind}
 use Rattle.gen1_text.proofs.PackedLemmas.{all-end, all-fault, all-made, all-seventh}
 use Rattle.gen1_text.proofs.TextLemmas.{behind-more, behind-none}
 use Rattle.gen1_text.proofs.packed.members_in_packed.Goals as goal

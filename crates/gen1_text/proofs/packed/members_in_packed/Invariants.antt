@@ -1,6 +1,6 @@
 use Rattle.std.proofs.Common.{length, ◌≡◌, ◌≤◌}
 use Rattle.gen1_text.specs.Packed.{all_unpacked, members_packed}
-use Rattle.gen1_text.specs.Words.{pieces_left, behind}
+use Rattle.gen1_text.specs.MemberLines.{pieces_left, behind}
 use Rattle.gen1_text.proofs.packed.members_in_packed.Given as goal
 
 abbrev pub invariant-loop-piece : goal.invariant-loop-piece

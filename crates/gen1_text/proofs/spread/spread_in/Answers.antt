@@ -1,6 +1,6 @@
 use Rattle.std.proofs.Common.{arith, sym, ◌∙◌}
 use Rattle.std.proofs.lemmas.Grind.{common_steps}
-use Rattle.gen1_text.specs.Words.{pieces_left}
+use Rattle.gen1_text.specs.MemberLines.{pieces_left}
 use Rattle.gen1_text.proofs.TextLemmas.{parts_go, parts_stop}
 use Rattle.gen1_text.proofs.spread.spread_in.Goals as goal
 

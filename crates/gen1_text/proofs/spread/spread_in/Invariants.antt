@@ -1,6 +1,5 @@
 use Rattle.std.proofs.Common.{◌≡◌, length}
-use Rattle.gen1_text.specs.Words.{pieces_left, pieces_of}
-use Rattle.gen1_text.specs.Spreads.{nothing_said, with_parts}
+use Rattle.gen1_text.specs.MemberLines.{pieces_left, pieces_of, nothing_said, with_parts}
 use Rattle.gen1_text.proofs.spread.spread_in.Given as goal
 
 abbrev pub invariant-loop-part : goal.invariant-loop-part

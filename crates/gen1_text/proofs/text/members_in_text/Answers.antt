@@ -2,7 +2,7 @@ use Rattle.std.proofs.Common.{Ok, ap, append-nil, arith, length, sym, ◌∙◌,
 use Rattle.std.proofs.lemmas.Bool.Decides.{nat_tests}
 use Rattle.std.proofs.lemmas.Grind.{common_steps}
 use Rattle.std.proofs.lemmas.Result.{err_from_is_err_and}
-use Rattle.gen1_text.specs.Words.{pieces_left, behind}
+use Rattle.gen1_text.specs.MemberLines.{pieces_left, behind}
 use Rattle.gen1_text.specs.Texts.{at_line, members_told}
 use Rattle.gen1_text.proofs.TextLemmas.{length-pieces_of, behind-more, behind-none, held, told-change_fault, told-change_made, told-end, told-end_of_member, told-head_fault, told-head_made, told-last, told-parting, told-seventh}
 use Rattle.gen1_text.proofs.text.members_in_text.Goals as goal

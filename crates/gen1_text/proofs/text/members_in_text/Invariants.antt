@@ -1,6 +1,6 @@
 use Rattle.std.proofs.Common.{length, ◌+◌, ◌<◌, ◌≡◌, ◌≤◌}
 use Rattle.std.specs.Prelude.{OnSome}
-use Rattle.gen1_text.specs.Words.{pieces_left, behind}
+use Rattle.gen1_text.specs.MemberLines.{pieces_left, behind}
 use Rattle.gen1_text.specs.Texts.{lines_of, members_told, told}
 use Rattle.gen1_text.proofs.text.members_in_text.Given as goal
 

@@ -12,7 +12,7 @@ use Rattle.gen1_machine.proofs.ValidSteps.{both_plan, both-plan_of}
 use Rattle.gen1_layout.specs.Shows.{Frame, setting_of}
 use Rattle.gen1_layout.proofs.Storing.{within_of}
 use Rattle.gen1_hits.specs.Knowing.{knowing, with_broke}
-use Rattle.gen1_switching.specs.Updates.{drawing_on}
+use Rattle.gen1_switching.specs.SwitchingIn.{drawing_on}
 use Rattle.gen1_switching.proofs.Stepped.{planned, reopened, started}
 use Rattle.gen1_turn.proofs.Living.{begins-whole, both-bring}
 use Rattle.gen1_turn.proofs.turn_update.turn.Goals as goal

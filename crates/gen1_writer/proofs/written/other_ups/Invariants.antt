@@ -1,5 +1,5 @@
 use Rattle.std.proofs.Common.{drop, ◌+◌, ◌≡◌}
-use Rattle.gen1_writer.specs.Written.{other_ups_from}
+use Rattle.gen1_writer.specs.Export.{other_ups_from}
 use Rattle.gen1_writer.proofs.written.other_ups.Given as goal
 
 abbrev pub invariant-loop-index : goal.invariant-loop-index

@@ -1,5 +1,5 @@
 use Rattle.gen1_machine.specs.Moves.{move_at}
-use Rattle.test_callers.proofs.Draws.{begun-shown, critical-is}
+use Rattle.test_callers.proofs.Operations.{begun-shown, critical-is}
 use Rattle.test_callers.proofs.any.critical_by.Goals as goal
 
 pub returns : goal.returns

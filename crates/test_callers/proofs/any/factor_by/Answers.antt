@@ -1,4 +1,4 @@
-use Rattle.test_callers.proofs.Draws.{factor-draws, factor-keeps}
+use Rattle.test_callers.proofs.Operations.{factor-draws, factor-keeps}
 use Rattle.test_callers.proofs.any.factor_by.Goals as goal
 
 pub returns-clause-kept : goal.returns-clause-kept

@@ -1,4 +1,4 @@
-use Rattle.test_callers.proofs.Draws.{begun-shown, healthy-goes, paralysed-draws}
+use Rattle.test_callers.proofs.Operations.{begun-shown, healthy-goes, paralysed-draws}
 use Rattle.test_callers.proofs.any.gate_by.Goals as goal
 
 pub returns-clause-healthy : goal.returns-clause-healthy

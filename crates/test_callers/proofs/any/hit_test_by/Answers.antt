@@ -1,5 +1,5 @@
 use Rattle.gen1_machine.specs.Moves.{move_at}
-use Rattle.test_callers.proofs.Draws.{begun-shown, hit_test-is}
+use Rattle.test_callers.proofs.Operations.{begun-shown, hit_test-is}
 use Rattle.test_callers.proofs.any.hit_test_by.Goals as goal
 
 pub returns : goal.returns

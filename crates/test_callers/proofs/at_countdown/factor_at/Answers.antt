@@ -4,7 +4,7 @@ use Rattle.gen1_rolls.specs.Streams.{byte_at, first, first_within}
 use Rattle.gen1_machine.specs.Damage.{is_factor}
 use Rattle.gen1_rolls.proofs.Standing.{stands_at_itself}
 use Rattle.test_callers.specs.Countdown.{countdown}
-use Rattle.test_callers.proofs.Draws.{first_byte, own}
+use Rattle.test_callers.proofs.Operations.{first_byte, own}
 use Rattle.test_callers.proofs.at_countdown.factor_at.Goals as goal
 
 -- A number that is a factor is the first of its countdown.

@@ -1,6 +1,6 @@
 use Rattle.gen1_rolls.proofs.Standing.{stands_at_itself}
 use Rattle.test_callers.specs.Countdown.{countdown}
-use Rattle.test_callers.proofs.Draws.{first_byte, own}
+use Rattle.test_callers.proofs.Operations.{first_byte, own}
 use Rattle.test_callers.proofs.at_countdown.hit_test_at.Goals as goal
 
 pub returns : goal.returns

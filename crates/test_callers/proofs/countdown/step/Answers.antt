@@ -1,5 +1,5 @@
 use Rattle.std.proofs.Common.{arith}
-use Rattle.test_callers.proofs.Draws.{countdown_is_stream}
+use Rattle.test_callers.proofs.Operations.{countdown_is_stream}
 use Rattle.test_callers.proofs.countdown.step.Goals as goal
 
 pub returns-clause-stream : goal.returns-clause-stream

@@ -9,7 +9,7 @@ use Rattle.gen1_machine.specs.Sides.{other}
 use Rattle.gen1_machine.specs.State.{Field, member_in}
 use Rattle.gen1_hits.specs.DamageNumbers.{damages}
 use Rattle.uses.specs.declared.calculator.Calculation.{Calculation}
-use Rattle.uses.specs.Calculations.{calculation_in, calculation_of, taking_all}
+use Rattle.uses.specs.Examples.{calculation_in, calculation_of, taking_all}
 use Rattle.uses.proofs.calculator.calculate.Goals as goal
 
 abbrev made : List ℕ → ℕ → ℕ → ℕ → Calculation

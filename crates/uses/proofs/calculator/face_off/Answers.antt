@@ -2,7 +2,7 @@ use Rattle.std.proofs.Common.{arith, inl, inr, refl, ◌≡◌}
 use Rattle.gen1_machine.specs.declared.terms.Outcome.TheVariants.{Ongoing}
 use Rattle.gen1_machine.specs.State.{State}
 use Rattle.gen1_machine.specs.Valid.{IsState}
-use Rattle.gen1_switching.specs.Updates.{Starts}
+use Rattle.gen1_switching.specs.SwitchingIn.{Starts}
 use Rattle.uses.proofs.calculator.face_off.Goals as goal
 
 -- at turn 0 nothing has happened

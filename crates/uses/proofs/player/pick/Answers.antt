@@ -1,8 +1,8 @@
 use Rattle.std.proofs.Common.{ap, arith, get_or, length, ◌%◌, ◌∙◌, ◌≡◌}
 use Rattle.std.proofs.Math.Nat.{mod-lt}
-use Rattle.gen1_machine.specs.declared.choice.Choice.{Choice}
+use Rattle.gen1_machine.specs.declared.side.Choice.{Choice}
 use Rattle.gen1_machine.specs.Step.{is_among}
-use Rattle.gen1_engine.proofs.Offers.{among-at}
+use Rattle.gen1_engine.proofs.Making.{among-at}
 use Rattle.uses.proofs.player.pick.Goals as goal
 
 pub returns-in_default : goal.returns-in_default

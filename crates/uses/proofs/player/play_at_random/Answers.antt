@@ -7,8 +7,8 @@ use Rattle.gen1_machine.specs.State.{is_over}
 use Rattle.gen1_machine.specs.Step.{run}
 use Rattle.gen1_machine.proofs.RunsEnd.{runs_end}
 use Rattle.gen1_engine.specs.declared.result.BattleResult.{BattleResult}
-use Rattle.gen1_engine.proofs.Offers.{accepts-none}
-use Rattle.uses.proofs.Offers.{accepts-more, accepts-offered, picked}
+use Rattle.gen1_engine.proofs.Making.{accepts-none}
+use Rattle.uses.proofs.Examples.{accepts-more, accepts-offered, picked}
 use Rattle.uses.proofs.player.play_at_random.Goals as goal
 
 pub updates-init : goal.updates-init

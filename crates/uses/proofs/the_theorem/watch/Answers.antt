@@ -6,7 +6,7 @@ use Rattle.gen1_machine.specs.Step.{events_of, run}
 use Rattle.gen1_machine.specs.View.{View, first_view}
 use Rattle.gen1_machine.proofs.Spectators.{watcher_knows}
 use Rattle.gen1_events.specs.Reader.{Reading, IsReading}
-use Rattle.gen1_spectator.specs.Following.{Followed, begun, joined, piece}
+use Rattle.gen1_spectator.specs.Plain.{Followed, begun, joined, piece}
 use Rattle.gen1_spectator.proofs.Following.{followed_told, joined_reading, told_all, told_no_fault, joined_more, joined_rest, piece_bytes}
 use Rattle.uses.proofs.the_theorem.watch.Goals as goal
 

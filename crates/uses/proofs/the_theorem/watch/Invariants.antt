@@ -1,7 +1,7 @@
 -- The spectator has followed the pieces so far.
 use Rattle.std.proofs.Common.{map, take}
 use Rattle.gen1_machine.specs.View.{first_view}
-use Rattle.gen1_spectator.specs.Following.{Followed, joined}
+use Rattle.gen1_spectator.specs.Plain.{Followed, joined}
 use Rattle.gen1_spectator.proofs.Following.{piece_bytes}
 use Rattle.uses.proofs.the_theorem.watch.Given as goal
 

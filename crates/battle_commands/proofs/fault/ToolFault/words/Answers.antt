@@ -2,7 +2,7 @@ use Rattle.std.proofs.Common.{ap, sym, ◌∙◌}
 use Rattle.gen1_machine.specs.Lines.{joined}
 use Rattle.battle_commands.specs.Faults.{pieces_of}
 use Rattle.battle_commands.specs.declared.fault.ToolFault.{ToolFault}
-use Rattle.battle_commands.proofs.Replying.{four_pieces, six_pieces}
+use Rattle.battle_commands.proofs.Serving.{four_pieces, six_pieces}
 use Rattle.battle_commands.proofs.fault.ToolFault.words.Goals as goal
 
 pub returns-in-Team : goal.returns-in-Team

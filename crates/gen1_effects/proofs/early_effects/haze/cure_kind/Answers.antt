@@ -1,5 +1,5 @@
 use Rattle.gen1_layout.proofs.Words.{Field, Who, ap, changed_member, refl, stays, told_so, who_in}
-use Rattle.gen1_stats.specs.declared.status.Status.TheVariants.{Healthy}
+use Rattle.gen1_stats.specs.declared.member.Status.TheVariants.{Healthy}
 use Rattle.gen1_machine.specs.declared.event.Event.TheVariants as events
 use Rattle.gen1_machine.specs.EarlyEffects.{cure_kind}
 use Rattle.gen1_machine.specs.Progress.{cure}

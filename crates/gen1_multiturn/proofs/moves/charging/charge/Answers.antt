@@ -1,6 +1,6 @@
 use Rattle.gen1_layout.proofs.Words.{Progress, active_in, active_ok, length, member_in, seeing, subst, sym}
-use Rattle.gen1_machine.specs.declared.picks.Pick.TheVariants.{Use}
-use Rattle.gen1_machine.specs.declared.picks.UsedMove.{UsedMove}
+use Rattle.gen1_machine.specs.declared.side.Pick.TheVariants.{Use}
+use Rattle.gen1_machine.specs.declared.side.UsedMove.{UsedMove}
 use Rattle.gen1_machine.specs.Charging.{charge}
 use Rattle.gen1_machine.specs.Moves.{move_at}
 use Rattle.gen1_machine.specs.Valid.{IsUsedMove}

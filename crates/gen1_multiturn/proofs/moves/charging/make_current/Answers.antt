@@ -1,6 +1,6 @@
 use Rattle.std.proofs.Common.{◌≡◌}
 use Rattle.gen1_layout.proofs.Words.{Active, active_in, length, member_in, on_active, put_on_active, refl, seeing, subst, sym}
-use Rattle.gen1_machine.specs.declared.picks.UsedMove.{UsedMove}
+use Rattle.gen1_machine.specs.declared.side.UsedMove.{UsedMove}
 use Rattle.gen1_machine.specs.Picks.{used_by}
 use Rattle.gen1_machine.specs.State.{with_current_move}
 use Rattle.gen1_machine.specs.Progress.{active}

@@ -3,7 +3,7 @@ use Rattle.gen1_machine.specs.Layout.{number_of_bits}
 use Rattle.gen1_machine.specs.Rules.{bit_of}
 use Rattle.gen1_machine.specs.State.{member_at, party}
 use Rattle.gen1_stats.specs.Members.{is_living}
-use Rattle.gen1_offers.specs.OfferedMask.{passing}
+use Rattle.gen1_offers.specs.OfferedChoices.{passing}
 use Rattle.gen1_offers.proofs.Benches.{bits-below, length-passing, shifted}
 use Rattle.gen1_offers.proofs.MaskDigits.{digit-added, passing-set}
 use Rattle.gen1_offers.proofs.bench.Bench.digits_follow.Goals as goal

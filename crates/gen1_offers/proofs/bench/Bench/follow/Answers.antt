@@ -1,11 +1,11 @@
 use Rattle.std.proofs.Common.{ap, arith, inl, inr, refl, subst, sym, ◌∙◌, ◌≡◌, ◌≤◌}
-use Rattle.gen1_machine.specs.declared.choice.Choice.{Choice}
+use Rattle.gen1_machine.specs.declared.side.Choice.{Choice}
 use Rattle.gen1_machine.specs.declared.side.Side.{Side}
 use Rattle.gen1_machine.specs.Layout.{number_of_bits}
 use Rattle.gen1_machine.specs.State.{active_in, party}
 use Rattle.gen1_layout.specs.Shows.{Within, setting_of}
 use Rattle.gen1_layout.proofs.Storing.{within_of}
-use Rattle.gen1_offers.specs.OfferedMask.{KeepsOut, living_of}
+use Rattle.gen1_offers.specs.OfferedChoices.{KeepsOut, living_of}
 use Rattle.gen1_offers.proofs.Benches.{comes-same, keeps-place, nobody-out, out_is, stays-same}
 use Rattle.gen1_offers.proofs.bench.Bench.follow.Goals as goal
 

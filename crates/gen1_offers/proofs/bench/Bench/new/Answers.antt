@@ -1,7 +1,7 @@
 use Rattle.std.proofs.Common.{ap, ℕ, ◌∙◌}
 use Rattle.gen1_machine.specs.Layout.{number_of_bits}
 use Rattle.gen1_layout.specs.Shows.{setting_of}
-use Rattle.gen1_offers.specs.OfferedMask.{living_of, passing}
+use Rattle.gen1_offers.specs.OfferedChoices.{living_of, passing}
 use Rattle.gen1_offers.proofs.OfferedSet.{packs_of}
 use Rattle.gen1_offers.proofs.bench.Bench.new.Goals as goal
 use Rattle.std.proofs.Common.{sym}

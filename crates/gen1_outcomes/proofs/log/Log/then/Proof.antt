@@ -25,7 +25,7 @@ use denote.Triple.Entry.{alive}
 use denote.Triple.Spec.{Meets, triple_of}
 use denote.Triple.Table.{entered}
 use denote.Triple.Walked.{says, Stays, stay_dropped, walk_of, ends_at, walk_Meets, Goes-dropped}
-use Rattle.gen1_outcomes.proofs.Walks.{none, none_made}
+use Rattle.gen1_outcomes.proofs.Walking.{none, none_made}
 use Rattle.gen1_outcomes.specs.contracts.log.Log as Log
 use Rattle.gen1_outcomes.specs.contracts.log.Entry as Entry
 use Rattle.gen1_outcomes.specs.contracts.log.Log.then as F

@@ -1,6 +1,6 @@
 use Rattle.std.proofs.Common.{cond, subst, sym, ◌<◌, ◌≡◌, ◌∙◌, ℕ}
-use Rattle.gen1_rolls.specs.declared.look.Look.TheVariants.{Below}
-use Rattle.gen1_rolls.specs.declared.look.Look.{Look}
+use Rattle.gen1_rolls.specs.declared.rolls.Look.TheVariants.{Below}
+use Rattle.gen1_rolls.specs.declared.rolls.Look.{Look}
 use Rattle.gen1_outcomes.specs.declared.byte_set.ByteSet.{ByteSet}
 use Rattle.gen1_outcomes.specs.Bytes.{has, size, alike_in}
 use Rattle.gen1_outcomes.proofs.Sets.{size_all, weighs}

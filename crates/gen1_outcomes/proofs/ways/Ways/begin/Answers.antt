@@ -1,6 +1,6 @@
 use Rattle.std.proofs.Common.{List, [], ap, subst, sym, ◌∙◌, ◌≡◌, rules}
 use Rattle.std.specs.Borrow.{GName}
-use Rattle.gen1_machine.specs.declared.choice.Choice.TheVariants as choices
+use Rattle.gen1_machine.specs.declared.side.Choice.TheVariants as choices
 use Rattle.gen1_machine.specs.declared.side.Side.TheVariants.{One, Two}
 use Rattle.gen1_machine.specs.declared.terms.Request.TheVariants.{Move}
 use Rattle.gen1_machine.specs.Picks.{pick_in}
@@ -8,11 +8,11 @@ use Rattle.gen1_machine.specs.Ruling.{ruling_of}
 use Rattle.gen1_machine.specs.Turn.{turn}
 use Rattle.gen1_layout.specs.Parts.{parts_of}
 use Rattle.gen1_layout.specs.Shows.{Stands, setting_of}
-use Rattle.gen1_switching.specs.Updates.{Plays, drawing_on}
+use Rattle.gen1_switching.specs.SwitchingIn.{Plays, drawing_on}
 use Rattle.gen1_outcomes.specs.declared.log.Entry.{Entry}
 use Rattle.gen1_outcomes.specs.declared.nodes.Nodes.{Nodes}
 use Rattle.gen1_outcomes.specs.Beginning.{Begins, unflinched}
-use Rattle.gen1_outcomes.specs.Following.{Walk}
+use Rattle.gen1_outcomes.specs.Plain.{Walk}
 use Rattle.gen1_outcomes.specs.Logs.{logged, place_at}
 use Rattle.gen1_outcomes.specs.Middles.{Reaches}
 use Rattle.gen1_outcomes.proofs.Closing.{within_bytes}

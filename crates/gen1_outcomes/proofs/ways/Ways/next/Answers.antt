@@ -7,7 +7,7 @@ use Rattle.gen1_engine.specs.Update.{AreOffered}
 use Rattle.gen1_outcomes.specs.declared.log.Entry.{Entry}
 use Rattle.gen1_outcomes.specs.declared.nodes.Nodes.{Nodes}
 use Rattle.gen1_outcomes.specs.Nodes.{AllDone, IsChance, LeadsOn}
-use Rattle.gen1_outcomes.specs.Following.{Leads, PlaysNext, Walk}
+use Rattle.gen1_outcomes.specs.Plain.{Leads, PlaysNext, Walk}
 use Rattle.gen1_outcomes.proofs.Logs.{leads_of, logged_by, same_place}
 use Rattle.gen1_outcomes.proofs.Offered.{can_follow, leads_by, way_as}
 use Rattle.gen1_outcomes.proofs.Walking.{goes_past}

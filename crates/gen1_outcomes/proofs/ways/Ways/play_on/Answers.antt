@@ -7,7 +7,7 @@ use Rattle.gen1_engine.specs.Update.{AreOffered}
 use Rattle.gen1_outcomes.specs.declared.beginning.Left.TheVariants as lefts
 use Rattle.gen1_outcomes.specs.declared.log.Entry.{Entry}
 use Rattle.gen1_outcomes.specs.declared.nodes.Nodes.{Nodes}
-use Rattle.gen1_outcomes.specs.Following.{Leads, Walk}
+use Rattle.gen1_outcomes.specs.Plain.{Leads, Walk}
 use Rattle.gen1_outcomes.specs.Listing.{untold}
 use Rattle.gen1_outcomes.specs.Logs.{place_at}
 use Rattle.gen1_outcomes.specs.Middles.{EndsAt, PlaysOn}

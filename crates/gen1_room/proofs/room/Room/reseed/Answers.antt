@@ -1,5 +1,5 @@
 use Rattle.std.proofs.Common.{subst, sym}
-use Rattle.gen1_room.specs.declared.held.Held.{Held}
+use Rattle.gen1_room.specs.declared.submission.Held.{Held}
 use Rattle.gen1_room.proofs.Ending.{holds_numbers}
 use Rattle.gen1_room.specs.Rooms.{Holds, reseeded_in}
 use Rattle.gen1_room.proofs.room.Room.reseed.Goals as goal

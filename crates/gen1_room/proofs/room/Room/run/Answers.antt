@@ -3,9 +3,9 @@ use Rattle.std.specs.Prelude.{slice_set, map}
 use Rattle.std.proofs.lemmas.List.{map-append, take_more, take_more_set}
 use Rattle.gen1_machine.specs.declared.side.Side.{Side}
 use Rattle.gen1_machine.specs.Room.{after, Course, course_of, replies_of, Reply, reply_to, Submission, room_of}
-use Rattle.gen1_room.specs.declared.held.Held.{Held}
-use Rattle.gen1_room.specs.declared.reply.Submitted.{Submitted}
-use Rattle.gen1_room.specs.declared.reply.RoomRefusal.{RoomRefusal}
+use Rattle.gen1_room.specs.declared.submission.Held.{Held}
+use Rattle.gen1_room.specs.declared.submission.Submitted.{Submitted}
+use Rattle.gen1_room.specs.declared.submission.RoomRefusal.{RoomRefusal}
 use Rattle.gen1_room.specs.Rooms.{Holds, reply_of, submission_at}
 use Rattle.std.proofs.Math.Seq.{take-length}
 use Rattle.gen1_machine.specs.declared.side.Side.TheVariants.{One}

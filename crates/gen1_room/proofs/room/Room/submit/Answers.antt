@@ -1,5 +1,5 @@
 use Rattle.std.proofs.Common.{subst, sym}
-use Rattle.gen1_room.specs.declared.held.Held.{Held}
+use Rattle.gen1_room.specs.declared.submission.Held.{Held}
 use Rattle.gen1_room.specs.Rooms.{Holds}
 use Rattle.gen1_room.proofs.room.Room.submit.Goals as goal
 

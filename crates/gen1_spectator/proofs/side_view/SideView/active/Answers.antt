@@ -1,7 +1,7 @@
 use Rattle.std.proofs.Common.{ap, ℕ, ◌∙◌}
 use Rattle.gen1_machine.specs.View.{SideView}
 use Rattle.gen1_spectator.specs.Plain.{member_shown}
-use Rattle.gen1_spectator.proofs.Sights.{shown_there}
+use Rattle.gen1_spectator.proofs.Following.{shown_there}
 use Rattle.gen1_spectator.proofs.side_view.SideView.active.Goals as goal
 
 pub returns : goal.returns

@@ -1,7 +1,7 @@
 use Rattle.std.proofs.Common.{sym, ◌≡◌, ◌∙◌}
 use Rattle.gen1_layout.proofs.Words.{Field, Side, active_in, conditions_in, false, refl}
-use Rattle.gen1_machine.specs.declared.picks.Pick.{Pick}
-use Rattle.gen1_machine.specs.declared.picks.Pick.TheVariants.{Continue, Held, Idle, Use}
+use Rattle.gen1_machine.specs.declared.side.Pick.{Pick}
+use Rattle.gen1_machine.specs.declared.side.Pick.TheVariants.{Continue, Held, Idle, Use}
 use Rattle.gen1_machine.specs.Picks.{bars, is_disabled_in, is_idle, used_by}
 use Rattle.gen1_status.proofs.gate_tests.by_move.is_disabled.Goals as goal
 

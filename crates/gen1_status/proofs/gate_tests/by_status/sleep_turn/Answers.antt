@@ -1,6 +1,6 @@
 use Rattle.gen1_layout.proofs.Words.{Field, Who, ap, arith, changed_member, goes, halted, if_not, if_so, member_in, member_ok, put_on_member, subst, told_so, who_in}
-use Rattle.gen1_stats.specs.declared.status.Status.{Status}
-use Rattle.gen1_machine.specs.declared.health.Kind.TheVariants as kinds
+use Rattle.gen1_stats.specs.declared.member.Status.{Status}
+use Rattle.gen1_machine.specs.declared.event.Kind.TheVariants as kinds
 use Rattle.gen1_machine.specs.declared.event.Event.TheVariants as events
 use Rattle.gen1_machine.specs.State.{with_sleep_one_less}
 use Rattle.gen1_machine.specs.Valid.{IsStatus}

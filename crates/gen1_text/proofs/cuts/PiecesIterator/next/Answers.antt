@@ -1,5 +1,5 @@
 use Rattle.std.proofs.Common.{ap, arith, length, ◌∙◌}
-use Rattle.gen1_text.specs.Words.{pieces_of_rest}
+use Rattle.gen1_text.specs.MemberLines.{pieces_of_rest}
 use Rattle.gen1_text.proofs.TextLemmas.{pieces_of_at, pieces_of_whole}
 use Rattle.gen1_text.proofs.cuts.PiecesIterator.next.Goals as goal
 

@@ -4,7 +4,7 @@ use Rattle.gen1_tables.specs.declared.effect.Effect.{Effect}
 use Rattle.gen1_tables.specs.Effects.{traps}
 use Rattle.gen1_machine.specs.Action.{damage_of, lands_at_once}
 use Rattle.gen1_machine.specs.Moves.{move_at}
-use Rattle.gen1_turn.specs.Damage.{LikeUsual}
+use Rattle.gen1_turn.specs.Action.{LikeUsual}
 use Rattle.gen1_turn.proofs.action.steps.damage_unless_landing.Goals as goal
 
 pub returns-then-lands_at_once-clause-shown : goal.returns-then-lands_at_once-clause-shown

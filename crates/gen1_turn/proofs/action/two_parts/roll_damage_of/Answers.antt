@@ -6,7 +6,7 @@ use Rattle.gen1_machine.specs.Progress.{on_field}
 use Rattle.gen1_machine.specs.Sides.{other}
 use Rattle.gen1_machine.specs.State.{with_last_damage}
 use Rattle.gen1_hits.proofs.Knowledge.{varying}
-use Rattle.gen1_turn.specs.Damage.{limit_in}
+use Rattle.gen1_turn.specs.Action.{limit_in}
 use Rattle.gen1_turn.proofs.Damage.{like-of, limit-same}
 use Rattle.gen1_turn.proofs.TwoParts.{not-zero}
 use Rattle.gen1_turn.proofs.action.two_parts.roll_damage_of.Goals as goal

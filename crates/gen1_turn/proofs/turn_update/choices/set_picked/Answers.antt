@@ -1,6 +1,6 @@
 use Rattle.gen1_layout.proofs.Words.{Active, active_in, length, member_in, on_active, put_on_active, refl, seeing, subst}
-use Rattle.gen1_machine.specs.declared.picks.Pick.{Pick}
-use Rattle.gen1_machine.specs.declared.picks.UsedMove.TheVariants.{Nothing}
+use Rattle.gen1_machine.specs.declared.side.Pick.{Pick}
+use Rattle.gen1_machine.specs.declared.side.UsedMove.TheVariants.{Nothing}
 use Rattle.gen1_machine.specs.Picks.{picked_after}
 use Rattle.gen1_machine.specs.State.{with_picked_move}
 use Rattle.gen1_machine.specs.Progress.{active}

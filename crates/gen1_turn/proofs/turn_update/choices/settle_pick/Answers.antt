@@ -1,7 +1,7 @@
 use Rattle.gen1_layout.proofs.Words.{Active, active_ok, ap, length, member_in, on_active, put_on_active, refl, seeing, subst, sym, ◌∙◌}
-use Rattle.gen1_machine.specs.declared.picks.Pick.TheVariants.{Held, Use}
-use Rattle.gen1_machine.specs.declared.picks.UsedMove.{UsedMove}
-use Rattle.gen1_machine.specs.declared.picks.UsedMove.TheVariants.{Nothing}
+use Rattle.gen1_machine.specs.declared.side.Pick.TheVariants.{Held, Use}
+use Rattle.gen1_machine.specs.declared.side.UsedMove.{UsedMove}
+use Rattle.gen1_machine.specs.declared.side.UsedMove.TheVariants.{Nothing}
 use Rattle.gen1_machine.specs.Picks.{number_in}
 use Rattle.gen1_machine.specs.Progress.{active}
 use Rattle.gen1_machine.specs.State.{with_picked_move}

@@ -1,7 +1,7 @@
 use Rattle.std.proofs.Common.{List, subst, ℕ}
 use Rattle.std.proofs.lemmas.List.{take_rest}
-use Rattle.uses.specs.Viewing.{ShowsMore}
-use Rattle.uses.proofs.Viewing.{none_more, one_more}
+use Rattle.uses.specs.Examples.{ShowsMore}
+use Rattle.uses.proofs.Examples.{none_more, one_more}
 use Rattle.uses.proofs.viewer.pieces.show_piece.Goals as goal
 
 pub events-preserved : goal.events-preserved

@@ -1,7 +1,7 @@
 -- The events still to be shown are those of the remaining bytes.
 use Rattle.std.proofs.Common.{length, ◌+◌}
 use Rattle.gen1_spectator.proofs.Following.{waits}
-use Rattle.uses.proofs.Viewing.{Remains}
+use Rattle.uses.proofs.Examples.{Remains}
 use Rattle.uses.proofs.viewer.pieces.show_piece.Given as goal
 
 abbrev pub invariant-events : goal.invariant-events

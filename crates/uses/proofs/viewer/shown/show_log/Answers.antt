@@ -3,8 +3,8 @@ use Rattle.std.specs.List.{flat_map}
 use Rattle.std.proofs.lemmas.List.{take_all}
 use Rattle.gen1_machine.specs.View.{first_view, View}
 use Rattle.gen1_events.specs.Reader.{Reading}
-use Rattle.uses.specs.Viewing.{HasShown}
-use Rattle.uses.proofs.Viewing.{shown_first, shown_whole}
+use Rattle.uses.specs.Examples.{HasShown}
+use Rattle.uses.proofs.Examples.{shown_first, shown_whole}
 use Rattle.uses.proofs.viewer.shown.show_log.Goals as goal
 
 pub loop-piece-init : goal.loop-piece-init

@@ -2,7 +2,7 @@
 use Rattle.std.proofs.Common.{take}
 use Rattle.std.specs.List.{flat_map}
 use Rattle.gen1_machine.specs.View.{first_view}
-use Rattle.uses.specs.Viewing.{HasShown}
+use Rattle.uses.specs.Examples.{HasShown}
 use Rattle.uses.proofs.viewer.shown.show_log.Given as goal
 
 abbrev pub invariant-loop-piece : goal.invariant-loop-piece

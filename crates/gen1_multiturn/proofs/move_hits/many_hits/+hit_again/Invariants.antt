@@ -1,4 +1,0 @@
-use Rattle.gen1_multiturn.proofs.move_hits.many_hits.+hit_again.Given as goal
-
-abbrev pub decreases-hit_again : goal.decreases-hit_again
-decreases-hit_again g l = l.left

@@ -1,4 +1,0 @@
-use Rattle.gen1_outcomes.proofs.script.Script.draws_a_stream.Goals as goal
-
-pub returns : goal.returns
-returns c = c.keeps_the_law.ensures.stream

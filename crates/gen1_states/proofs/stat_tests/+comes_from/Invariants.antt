@@ -1,4 +1,0 @@
-use Rattle.gen1_states.proofs.stat_tests.+comes_from.Given as goal
-
-abbrev pub decreases-comes_from : goal.decreases-comes_from
-decreases-comes_from l = l.most

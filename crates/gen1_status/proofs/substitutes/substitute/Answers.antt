@@ -1,4 +1,0 @@
-use Rattle.gen1_status.proofs.substitutes.substitute.Goals as goal
-
-pub returns-clause-shown : goal.returns-clause-shown
-returns-clause-shown t c g p h = (c.make_substitute.result, c.make_substitute.ensures.shown g p h)
