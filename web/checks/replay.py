@@ -42,6 +42,12 @@ def shown(browser, content, name="battle.json"):
     browser.wait("return !document.getElementById('replay-stage').hidden", 60)
 
 
+def whole_is_written(browser):
+    """Waits until all lines so far are written, which takes slices of time in which the page is busy."""
+    first = "document.querySelector('#replay-whole-lines [data-code]')"
+    browser.wait(f"return !('busy' in document.documentElement.dataset) && {first}", 60)
+
+
 def a_recorded_battle_is_replayed_by_clicks(browser):
     case = battle(25, 40)
     shown(browser, case["input"])
@@ -61,7 +67,7 @@ def the_longest_recorded_battle_is_whole_at_its_end(browser):
     shown(browser, case["input"])
     browser.click("#replay-last")
     browser.click("#replay-whole summary")
-    browser.wait("return document.querySelector('#replay-whole-lines [data-code]')")
+    whole_is_written(browser)
     assert browser.lines("#replay-whole-lines") == lines_of(case)
 
 
@@ -156,7 +162,7 @@ def lines_are_replayed(browser):
         shown(browser, content, name)
         browser.click("#replay-last")
         browser.click("#replay-whole summary")
-        browser.wait("return document.querySelector('#replay-whole-lines [data-code]')")
+        whole_is_written(browser)
         assert browser.words("#replay-whole-lines li")[2:] == [
             "Turn 1 begins.",
             "Side 1's Tauros uses Body Slam.",
@@ -260,7 +266,7 @@ def chances_are_beside_lines(browser):
     browser.click("#replay-last")
     browser.run("document.getElementById('replay-whole').open = true")
     whole = "return [...document.querySelectorAll('#replay-whole-lines .chance')].map((it) => [it.closest('li').dataset.code, it.textContent])"
-    browser.wait("return document.querySelectorAll('#replay-whole-lines .chance').length > 10")
+    whole_is_written(browser)
     said = browser.run(whole)
     words = {"move": "hit", "-miss": "miss", "-crit": "crit", "faint": "KO"}
     kinds = [line.split("|")[1] for line in lines_in(code for code, _ in said)]

@@ -210,7 +210,7 @@ fn a_player_is_given_rules_and_turn_limit() {
     teller.report(&battle, &update.log(), &mut told).unwrap();
     assert_eq!((told.rules(), told.limit()), (Rules::FREEZE_CLAUSE, 20));
     // A host's messages leave it those that it was given.
-    let mut host = Host::new(Battle::with_limit(&team, &team, [9; 10], rules, limit));
+    let host = Host::new(Battle::with_limit(&team, &team, [9; 10], rules, limit));
     let mut player = player;
     player.receive(&host.message(Side::One)).unwrap();
     let guess = Guess::new(team, [7; 10]);

@@ -35,7 +35,7 @@ pub(crate) fn play_each(table: &str, script: &str) {
 
 /// The battle that clauses set up.
 pub(crate) fn set_up(clauses: &str) -> Result<Packed, Box<dyn Error>> {
-    let mut scene = Scene::new().ok().ok_or("no memory")?;
+    let mut scene = Scene::new().ok().ok_or("no first battle")?;
     for part in clauses.split(';') {
         let words = Words::new(part.trim(), Row::new("", ""));
         if !scene.sets(words).ok().ok_or("no such battle")? {
