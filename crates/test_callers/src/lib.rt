@@ -1,7 +1,6 @@
-//! Callers that know contracts alone: of each law, and of operations that draw from any generator. A third generator,
-//! with its own stream, meets the clauses of each.
+//! Callers that know contracts alone, of operations that draw from any generator. A third generator, with its own
+//! stream, meets the clauses of each.
 //!
-//! - `laws`: each law once
 //! - `draws`: a count drawn from any generator
 //! - `countdown`: the third generator
 //! - `any`: operations that draw, with any generator
@@ -12,10 +11,8 @@ mod any;
 mod at_countdown;
 mod countdown;
 mod draws;
-mod laws;
 
 pub use any::{critical_by, factor_by, gate_by, hit_test_by};
 pub use at_countdown::{critical_at, factor_at, gate_at, hit_test_at, own_stream};
 pub use countdown::Countdown;
 pub use draws::{count, index_after};
-pub use laws::{laws_of_logs, laws_of_rooms, laws_of_the_machine, laws_of_views};

@@ -4,6 +4,7 @@
 //! - `rooms`: `room`
 //! - `explained`: `--explain` and `log`
 //! - `heaps`: what is read and printed where memory is refused
+//! - `laws`: each law once
 //! - `setting`: what the others share
 #![tactic(auto)]
 
@@ -11,6 +12,8 @@
 mod explained;
 #[cfg(test)]
 mod heaps;
+#[cfg(test)]
+mod laws;
 #[cfg(test)]
 mod rooms;
 #[cfg(test)]
