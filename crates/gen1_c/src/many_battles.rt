@@ -12,11 +12,10 @@ ghost use Rattle.gen1_c.specs.Batches.{AreListed, AreMasks, AreStepped, AreUpdat
 ghost use Rattle.gen1_c.specs.Battle.{IsNoSide};
 
 use crate::codes::{LENGTHS, OVER, SIDE, of_load};
-use crate::outcomes::copy_of;
 use crate::update::{gen1_result, gen1_update_silent};
 use gen1_engine::packed::{offered_mask, reseed, result, update_offered};
 use gen1_events::Silent;
-use gen1_layout::Packed;
+use gen1_layout::{Packed, copy_of};
 use gen1_machine::{Choice, Side};
 use gen1_playouts::{ChoiceGenerator, PlayoutOptions, Playouts, pick, playout};
 use gen1_rolls::LinkRandom;
@@ -241,11 +240,8 @@ fn restart(battle: &mut Packed, start: &Packed, random: &mut ChoiceGenerator)
     ensures { (s : State) → Stands start.now s
         → IsAt (begun s random.old.state) battle.new random.new.state }
 {
-    // A copy allocates nothing, so it does not fail.
-    if let Ok(copy) = copy_of(start) {
-        *battle = copy;
-        reseed(battle, &LinkRandom::new(random.ten_numbers()));
-    }
+    *battle = copy_of(start);
+    reseed(battle, &LinkRandom::new(random.ten_numbers()));
 }
 
 // A step of a battle by choices at random, side 1 first.

@@ -7,6 +7,9 @@ ghost use Rattle.gen1_machine.specs.Rules.{bit_of};
 ghost use Rattle.gen1_states.specs.Plain.{on};
 ghost use Rattle.gen1_guesses.specs.Forks.{active_state, blocked_slot, foe_bits, foe_known, has, is_free, is_on, of_moves, own_known, used_slot};
 
+use gen1_layout::condition_bits::{
+    BAD_POISON, BIDE, CONFUSED, DISABLED, RAGE, SUBSTITUTE, THRASH, TRAPPING,
+};
 use gen1_player::{OwnSide, PublicSide};
 use gen1_states::{ActiveState, MemberState};
 use gen1_tables::{Effect, MoveId};
@@ -15,23 +18,6 @@ use gen1_tables::{Effect, MoveId};
 const STRUGGLE: u8 = 165;
 
 const STRUGGLE_SLOT: u8 = 5;
-
-// The places of the condition bits that have a number (docs/LAYOUT.md, "Condition bits").
-const BIDE: u32 = 0;
-
-const THRASH: u32 = 1;
-
-const TRAPPING: u32 = 2;
-
-const CONFUSED: u32 = 6;
-
-const SUBSTITUTE: u32 = 9;
-
-const RAGE: u32 = 11;
-
-const BAD_POISON: u32 = 13;
-
-const DISABLED: u32 = 16;
 
 /// What is known of an active member.
 #[derive(Clone, Copy)]

@@ -1,7 +1,9 @@
 //! The bytes of a status, a type, a used move and the like (docs/LAYOUT.md, "Header", "Member", "Active block").
 ghost use Rattle.std.specs.Prelude.{unwrap_or, ℕ, ◌≡◌, ◌≤◌};
 ghost use Rattle.gen1_stats.specs.Members.{is_marked};
+ghost use Rattle.gen1_machine.specs.LogBytes.{kind_or_0};
 ghost use Rattle.gen1_machine.specs.Rules.{bit_of};
+ghost use Rattle.gen1_machine.specs.State.{kind_of};
 ghost use Rattle.gen1_machine.specs.Layout.{disabled_slot, disabled_turns, outcome_byte, request_byte, status_byte, used_byte};
 ghost use Rattle.gen1_layout.specs.Parts.{element_of, outcome_of, request_of_byte, status_of, used_of};
 
@@ -88,6 +90,21 @@ pub(crate) fn byte_of_status(status: Status) -> u8
         Status::Burned => 16,
         Status::Frozen => 32,
         Status::Paralysed => 64,
+    }
+}
+
+/// The number of a status: 0 healthy, 1 asleep, 2 poisoned, 3 burned, 4 frozen, 5 paralysed.
+pub fn number_of_status(status: Status) -> u8
+    ensures value { result ≡ kind_or_0 (kind_of status) }
+    ensures small { result ≤ 5 }
+{
+    match status {
+        Status::Healthy => 0,
+        Status::Asleep { .. } => 1,
+        Status::Poisoned => 2,
+        Status::Burned => 3,
+        Status::Frozen => 4,
+        Status::Paralysed => 5,
     }
 }
 

@@ -5,6 +5,7 @@
 //! - `header`: the fields of the header
 //! - `member`: the fields of a member
 //! - `active`: the fields of an active block, without its conditions
+//! - `condition_bits`: the places of bits among the conditions
 //! - `condition_fields`: the conditions, with their numbers
 //! - `conditions`: the conditions as a set of bits
 //! - `codes`: the bytes of an outcome, a status, a type and the like
@@ -40,6 +41,7 @@ macro_rules! put_long {
 
 mod active;
 mod codes;
+pub mod condition_bits;
 mod condition_fields;
 mod conditions;
 mod event_fields;
@@ -50,7 +52,7 @@ mod member;
 pub mod offsets;
 mod packed;
 
-pub use codes::{byte_of_outcome, byte_of_request};
+pub use codes::{byte_of_outcome, byte_of_request, number_of_status};
 pub use conditions::Conditions;
 pub use loading::{LoadFault, laws};
-pub use packed::{Packed, in_two};
+pub use packed::{Packed, copy_of, in_two};

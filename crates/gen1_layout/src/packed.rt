@@ -51,6 +51,13 @@ impl Clone for Packed {
     }
 }
 
+/// A copy of a battle. Nothing is allocated, so unlike `clone` it does not return a `Result`.
+pub fn copy_of(battle: &Packed) -> Packed
+    ensures { result ≡ battle.now }
+{
+    Packed(battle.0)
+}
+
 impl Packed {
     pub(crate) fn of_bytes(bytes: [u8; 384]) -> Packed
         ensures { result ≡ parts_of bytes }

@@ -11,8 +11,7 @@ ghost use Rattle.gen1_outcomes.specs.declared.successor.Successor.{Successor};
 
 use crate::nodes::Chance;
 use crate::successor::{OutcomesFault, Successor, is_below};
-use crate::ways::copy_of;
-use gen1_layout::Packed;
+use gen1_layout::{Packed, copy_of};
 
 /// What a list of successors has so far.
 #[derive(Clone, Copy, PartialEq, Eq, Debug, Drop)]

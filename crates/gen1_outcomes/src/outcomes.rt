@@ -16,8 +16,8 @@ use crate::merging::{Tally, add, leave_out};
 use crate::middles::{Middle, Middles};
 use crate::nodes::Nodes;
 use crate::successor::{OutcomeOptions, OutcomesFault, Successor, is_below};
-use crate::ways::{Ways, copy_of};
-use gen1_layout::Packed;
+use crate::ways::Ways;
+use gen1_layout::{Packed, copy_of};
 use gen1_machine::Choice;
 
 /// A list of outcomes.

@@ -15,9 +15,8 @@ use crate::byte_set::ByteSet;
 use crate::explorer::{DEPTH, Explorer, Noted};
 use crate::nodes::{Chance, Node, Nodes};
 use crate::successor::{OutcomeOptions, OutcomesFault};
-use crate::ways::copy_of;
 use gen1_events::EventSink;
-use gen1_layout::Packed;
+use gen1_layout::{Packed, copy_of};
 use gen1_machine::Choice;
 use gen1_rolls::Look;
 

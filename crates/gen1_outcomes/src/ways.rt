@@ -1,5 +1,5 @@
 //! Each way of an update apart (docs/MECHANICS.md, "Link numbers").
-ghost use Rattle.std.specs.Prelude.{IfErr, IfNone, IfOk, IfSome, IsOk, IsOkUnless, Some, [], false, ◌≡◌, ◌⊎◌};
+ghost use Rattle.std.specs.Prelude.{IfErr, IfNone, IfOk, IfSome, IsOkUnless, Some, [], false, ◌≡◌, ◌⊎◌};
 ghost use Rattle.gen1_machine.specs.State.{State};
 ghost use Rattle.gen1_layout.specs.Shows.{Stands};
 ghost use Rattle.gen1_layout.specs.Words.{HasRoom, Reads, ReadsPacked};
@@ -18,9 +18,8 @@ use crate::successor::{OutcomeOptions, OutcomesFault};
 use gen1_engine::Refusal;
 use gen1_engine::packed::update_silent;
 use gen1_events::{EventSink, Silent};
-use gen1_layout::Packed;
+use gen1_layout::{Packed, copy_of};
 use gen1_machine::Choice;
-use std::alloc::AllocError;
 use std::marker::Model;
 
 /// The ways of an update. Each plays it with other bytes for its draws, which exclude those of all other ways.
@@ -264,25 +263,9 @@ impl Ways {
     }
 }
 
-/// A copy of the battle.
-pub fn copy_of(battle: &Packed) -> Packed
-    ensures { result ≡ battle.now }
-{
-    match try_copy(battle) {
-        Ok(copy) => copy,
-        Err(_) => unreachable!(),
-    }
-}
-
+// A choice that is used twice. The borrow checker covers no function that passes a value of type Copy twice.
 fn copied(choice: &Choice) -> Choice
     ensures { result ≡ choice.now }
 {
     *choice
-}
-
-fn try_copy(battle: &Packed) -> Result<Packed, AllocError>
-    ensures copy { IfOk result (λ copy. copy ≡ battle.now) }
-    ensures always { IsOk result }
-{
-    Ok(battle.clone()?)
 }

@@ -3,34 +3,18 @@ ghost use Rattle.std.specs.Prelude.{is_some, length, ◌≡◌, ◌≤◌};
 ghost use Rattle.gen1_layout.specs.Words.{Reads, ReadsPacked, active_in, conditions_in, member_at, member_in, party, underway_in};
 ghost use Rattle.gen1_layout.specs.Shows.{Stands};
 ghost use Rattle.gen1_machine.specs.Layout.{number_of_bits};
-ghost use Rattle.gen1_machine.specs.LogBytes.{kind_or_0};
 ghost use Rattle.gen1_machine.specs.Rules.{bit_of};
-ghost use Rattle.gen1_machine.specs.State.{State, kind_of};
+ghost use Rattle.gen1_machine.specs.State.{State};
 ghost use Rattle.gen1_player.specs.OwnSide.{IsListed, IsListedMember, is_present, nobody_out, own_active, own_conditions, own_member, own_side, plain_active, plain_member, plain_out, plain_side, shown_bits};
 
 use bitflags::Flags;
-use gen1_layout::{Conditions, Packed, byte_of_outcome, byte_of_request};
+use gen1_layout::offsets::{
+    ACCURACY_STAGE, ATTACK_STAGE, DEFENSE_STAGE, DISABLED_SLOT, EVASION_STAGE, FIRST_TYPE, LEVEL,
+    MOVES, PLACE, PP, SECOND_TYPE, SPECIAL_STAGE, SPECIES, SPEED_STAGE,
+};
+use gen1_layout::{Conditions, Packed, byte_of_outcome, byte_of_request, number_of_status};
 use gen1_machine::Side;
-use gen1_stats::Status;
 use gen1_tables::Stat;
-
-// Offsets in a member's block (docs/LAYOUT.md, "Member").
-const SPECIES: usize = 0;
-
-const LEVEL: usize = 1;
-
-const MOVES: usize = 15;
-
-const PP: usize = 19;
-
-// Offsets in an active block (docs/LAYOUT.md, "Active block").
-const PLACE: usize = 0;
-
-const TYPES: usize = 1;
-
-const STAGES: usize = 3;
-
-const DISABLED_SLOT: usize = 23;
 
 // The bit of Flinch (docs/LAYOUT.md, "Condition bits").
 const FLINCH: u32 = 8;
@@ -146,7 +130,7 @@ fn member(battle: &Packed, side: Side, place: u8) -> OwnMember
     OwnMember {
         species: block[SPECIES],
         level: block[LEVEL],
-        status: kind_of(battle.status_at(side, place)),
+        status: number_of_status(battle.status_at(side, place)),
         unused: 0,
         moves: [
             block[MOVES],
@@ -158,20 +142,6 @@ fn member(battle: &Packed, side: Side, place: u8) -> OwnMember
         hp: battle.hp_at(side, place),
         max_hp: battle.max_hp_at(side, place),
         stats: battle.own_stats_at(side, place),
-    }
-}
-
-fn kind_of(status: Status) -> u8
-    ensures value { result ≡ kind_or_0 (kind_of status) }
-    ensures small { result ≤ 5 }
-{
-    match status {
-        Status::Healthy => 0,
-        Status::Asleep { .. } => 1,
-        Status::Poisoned => 2,
-        Status::Burned => 3,
-        Status::Frozen => 4,
-        Status::Paralysed => 5,
     }
 }
 
@@ -212,14 +182,14 @@ fn out_now(battle: &Packed, side: Side) -> Out
             battle.current_stat(side, Stat::Special),
         ],
         place: block[PLACE],
-        types: [block[TYPES], block[TYPES + 1]],
+        types: [block[FIRST_TYPE], block[SECOND_TYPE]],
         stages: [
-            block[STAGES],
-            block[STAGES + 1],
-            block[STAGES + 2],
-            block[STAGES + 3],
-            block[STAGES + 4],
-            block[STAGES + 5],
+            block[ATTACK_STAGE],
+            block[DEFENSE_STAGE],
+            block[SPEED_STAGE],
+            block[SPECIAL_STAGE],
+            block[ACCURACY_STAGE],
+            block[EVASION_STAGE],
         ],
         disabled_slot: block[DISABLED_SLOT],
     }

@@ -1,6 +1,6 @@
 //! Battles played by random choices, to their end or for a number of updates, and which side is ahead in one that is not
 //! over (include/gen1.h, "many battles").
-ghost use Rattle.std.specs.Prelude.{IfOk, IsOk, false, ◌+◌, ◌<◌, ◌≡◌, ◌≤◌};
+ghost use Rattle.std.specs.Prelude.{false, ◌+◌, ◌<◌, ◌≡◌, ◌≤◌};
 ghost use Rattle.gen1_machine.specs.State.{State, is_over};
 ghost use Rattle.gen1_layout.specs.Shows.{Stands};
 ghost use Rattle.gen1_offers.specs.OfferedChoices.{IsBench, IsInRange, offered_mask};
@@ -9,11 +9,10 @@ ghost use Rattle.gen1_playouts.specs.Playouts.{EndsAs, IsDrawn, IsPlayedOut, IsR
 use crate::weights::{ChoiceGenerator, has_weights, pick, pick_weighted, weights_of};
 use gen1_engine::packed::{count_of, reseed, result, update_offered};
 use gen1_events::Silent;
-use gen1_layout::Packed;
+use gen1_layout::{Packed, copy_of};
 use gen1_machine::{Choice, Outcome, Side};
 use gen1_offers::Bench;
 use gen1_rolls::LinkRandom;
-use std::alloc::AllocError;
 
 /// How playouts are played.
 #[derive(Clone, Copy)]
@@ -94,22 +93,9 @@ fn end_of(
     ensures played { (s : State) → Stands start.now s
         → IsRound options.now s random.old.state result random.new.state }
 {
-    match copy_of(start) {
-        Ok(copy) => {
-            let mut copy = copy;
-            reseed(&mut copy, &LinkRandom::new(random.ten_numbers()));
-            run(&mut copy, options, by_weights, random)
-        }
-        // A copy allocates nothing, so this does not happen.
-        Err(_) => start.outcome(),
-    }
-}
-
-fn copy_of(battle: &Packed) -> Result<Packed, AllocError>
-    ensures copy { IfOk result (λ copy. copy ≡ battle.now) }
-    ensures always { IsOk result }
-{
-    Ok(battle.clone()?)
+    let mut copy = copy_of(start);
+    reseed(&mut copy, &LinkRandom::new(random.ten_numbers()));
+    run(&mut copy, options, by_weights, random)
 }
 
 // Plays a battle by random choices to its end, or for a number of updates, and returns how it ended.

@@ -2,20 +2,19 @@
 ghost use Rattle.std.specs.Prelude.{All, ◌≡◌, ◌≤◌};
 ghost use Rattle.gen1_layout.specs.Words.{Reads, ReadsPacked, active_in, member_at, member_in, party};
 ghost use Rattle.gen1_stats.specs.declared.member.Status.{Status};
-ghost use Rattle.gen1_machine.specs.LogBytes.{kind_or_0};
-ghost use Rattle.gen1_machine.specs.State.{State, kind_of};
+ghost use Rattle.gen1_machine.specs.State.{State};
 ghost use Rattle.gen1_layout.specs.Shows.{Stands};
 ghost use Rattle.gen1_states.specs.Reading.{HasKinds, IsCopied, active_now, active_state, member_state, no_active, side_state, sleep_of, state_of};
 
 use crate::plain::{ActiveState, BattleState, MemberState, SideState};
 use bitflags::Flags;
-use gen1_layout::Packed;
 use gen1_layout::offsets::{
     ACCURACY_STAGE, ATTACK_STAGE, BAD_POISON, CONFUSED, CURRENT_MOVE, DEFENSE_STAGE, DISABLED_SLOT,
     DISABLED_TURNS, EVASION_STAGE, FIRST_TYPE, INDEX, KEPT_ACCURACY, LEVEL, MARK, MOVES, OUTCOME,
     PICKED_MOVE, PLACE, PP, REQUEST_ONE, REQUEST_TWO, RULES, SECOND_TYPE, SPECIAL_STAGE, SPECIES,
     SPEED_STAGE, SUBSTITUTE, TURNS,
 };
+use gen1_layout::{Packed, number_of_status};
 use gen1_machine::Side;
 use gen1_stats::Status;
 use gen1_tables::Stat;
@@ -72,7 +71,7 @@ fn member_state(battle: &Packed, side: Side, place: u8) -> MemberState
     MemberState {
         species: block[SPECIES],
         level: block[LEVEL],
-        status: kind_of(status),
+        status: number_of_status(status),
         sleep: sleep_of(status),
         marked: block[MARK],
         moves: [
@@ -85,20 +84,6 @@ fn member_state(battle: &Packed, side: Side, place: u8) -> MemberState
         hp: battle.hp_at(side, place),
         max_hp: battle.max_hp_at(side, place),
         stats: battle.own_stats_at(side, place),
-    }
-}
-
-fn kind_of(status: Status) -> u8
-    ensures value { result ≡ kind_or_0 (kind_of status) }
-    ensures small { result ≤ 5 }
-{
-    match status {
-        Status::Healthy => 0,
-        Status::Asleep { .. } => 1,
-        Status::Poisoned => 2,
-        Status::Burned => 3,
-        Status::Frozen => 4,
-        Status::Paralysed => 5,
     }
 }
 

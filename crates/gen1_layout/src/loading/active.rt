@@ -3,6 +3,9 @@ ghost use Rattle.std.specs.Prelude.{◌≡◌, ◌↔◌, ◌<◌, ◌&&◌, ◌
 ghost use Rattle.gen1_machine.specs.Valid.{OnlyWith};
 ghost use Rattle.gen1_layout.specs.Loading.{active_bytes, long, word, PassesOfActives, effect_in, has, CountFits, DisabledFits, HoldsMove, PassesActive, PassesActiveAt, PassesCounts, PassesFixed, PassesOut, PassesProgress, PassesStages, PassesUnderway, TurnsFit, UsedFits};
 
+use crate::condition_bits::{
+    BAD_POISON, BIDE, CHARGING, CONFUSED, DISABLED, RAGE, RECHARGE, SUBSTITUTE, THRASH, TRAPPING,
+};
 use crate::loading::{active_bytes, are_zero, long, member_bytes, word};
 use crate::offsets;
 use crate::offsets::{
@@ -11,27 +14,6 @@ use crate::offsets::{
     PLACE_IN_SIDE, SECOND_TYPE, SPECIAL_STAGE, SPECIES, SPEED_STAGE, TURN, TURNS,
 };
 use gen1_tables::{Effect, MoveId};
-
-// The places of the condition bits that have a number or belong to the current move.
-const BIDE: u32 = 0;
-
-const THRASH: u32 = 1;
-
-const TRAPPING: u32 = 2;
-
-const CHARGING: u32 = 4;
-
-const CONFUSED: u32 = 6;
-
-const SUBSTITUTE: u32 = 9;
-
-const RECHARGE: u32 = 10;
-
-const RAGE: u32 = 11;
-
-const BAD_POISON: u32 = 13;
-
-const DISABLED: u32 = 16;
 
 // Whether both sides have valid active blocks.
 pub(crate) fn pass(form: &[u8]) -> bool
