@@ -5,9 +5,9 @@
     pytest tests/test_recorded.py -k 'runs and calc' --program FILE      the cases whose name, or whose file's name, has a word
 
 `runs` are those of battle_tool, or of another program that takes the same arguments (docs/PROGRAM.md): standard output, status and
-standard error. `updates` are those of trace_tool: after each pair of choices the refusal, the result, the choices that are then offered,
-the draws, the log and all 384 bytes. `loads` are those of layout_tool: of each byte string the number of its fault, or 0 and the bytes in
-the form of version 3 (docs/LAYOUT.md, "Loading"). The first difference of each case is printed.
+standard error. `updates` and `loads` are those of trace_tool: after each pair of choices the refusal, the result, the choices that are
+then offered, the draws, the log and all 384 bytes; and of each byte string the number of its fault, or 0 and the bytes in the form of
+version 3 (docs/LAYOUT.md, "Loading"). The first difference of each case is printed.
 """
 
 import json
@@ -147,9 +147,9 @@ def test_updates(traced, pytestconfig, battles, compared):
 
 
 def test_loads(pytestconfig, battles, compared):
-    layout_tool, strings = tool(pytestconfig, "layout_tool"), loads(recorded("loads.txt", battles))
+    trace_tool, strings = tool(pytestconfig, "trace_tool"), loads(recorded("loads.txt", battles))
     asked = "".join(f"{string.hex()}\n" for _, string in strings)
-    ran = subprocess.run([layout_tool], input=asked, capture_output=True, text=True)
+    ran = subprocess.run([trace_tool], input=asked, capture_output=True, text=True)
     wants = (str(fault) if fault else f"0 {newest_form(string).hex()}" for fault, string in strings)
     both = zip_longest(ran.stdout.splitlines(), wants, fillvalue="nothing")
     faults = [f"line {number}: {got}, not {want}" for number, (got, want) in enumerate(both, 1) if got != want]

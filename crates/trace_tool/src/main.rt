@@ -1,6 +1,11 @@
-//! Plays battles, each a line of JSON as `battle_tool run` takes it, and prints a line for each pair of choices. A line has the
-//! number of the refusal, or `-`; the codes of outcome and requests, or `-`; the bytes of the choices that each side is offered
-//! afterwards; how many draws the pair took; and its log and all 384 bytes in hex. An empty list or log is `-`.
+//! Plays battles and loads strings of bytes, each on a line.
+//!
+//! A line of JSON is a battle, as `battle_tool run` takes it. For each pair of choices a line is printed: the number of the
+//! refusal, or `-`; the codes of outcome and requests, or `-`; the bytes of the choices that each side is offered afterwards;
+//! how many draws the pair took; and its log and all 384 bytes in hex. An empty list or log is `-`.
+//!
+//! Any other line is a string of bytes in hex, which is loaded as a battle (docs/LAYOUT.md, "Loading"). Printed are 0 and the
+//! bytes in the form of version 3, or the number of the failed test.
 #![tactic(auto)]
 
 use anyhow::{Result, anyhow};
@@ -21,14 +26,31 @@ fn main(rt: HostRuntime) -> Result<()> {
     let alloc = rt.alloc();
     let mut out = BufWriter::new(alloc, io::writer(&rt))?;
     for line in BufReader::new(alloc, rt.reader())?.lines(alloc) {
-        let sheet = match read_sheet(alloc, line?.as_bytes(), Key::Choices) {
-            Ok(sheet) => sheet,
-            Err(_) => return Err(anyhow!("a line asks for no battle")),
-        };
-        write_trace(alloc, &sheet, &mut out)?;
+        let line = line?;
+        if line.as_str().starts_with("{") {
+            play(alloc, line.as_str(), &mut out)?;
+        } else {
+            load(alloc, line.as_str(), &mut out)?;
+        }
     }
     out.flush()?;
     Ok(())
+}
+
+fn load<W: Write>(alloc: Global, line: &str, out: &mut W) -> Result<()> {
+    let bytes = hex::decode(alloc, line)?;
+    match Packed::read(bytes.as_slice()) {
+        Ok(battle) => writeln!(out, "0 {}", hex::encode(alloc, battle.as_bytes())?)?,
+        Err(fault) => writeln!(out, "{}", fault.number())?,
+    }
+    Ok(())
+}
+
+fn play<W: Write>(alloc: Global, line: &str, out: &mut W) -> Result<()> {
+    match read_sheet(alloc, line.as_bytes(), Key::Choices) {
+        Ok(sheet) => write_trace(alloc, &sheet, out),
+        Err(_) => Err(anyhow!("a line asks for no battle")),
+    }
 }
 
 fn write_trace<W: Write>(alloc: Global, sheet: &Sheet<(u8, u8)>, out: &mut W) -> Result<()> {
