@@ -5,8 +5,8 @@ function alone. For a function that calls it, the prover prints that the called 
 too, and none of the caller's goals is open, that edit waits for the next round. A round is a check of the edited functions and of those
 that they call.
 
-An edit is tried alone, by a check of the whole crate, where it changes something other than bodies, such as a constant or a definition,
-and where a round does not refuse it.
+An edit of something other than bodies, such as a constant, names by a line `only: FUNCTION` the function that must be refused. Without one
+it is tried alone, by a check of the whole crate. So is an edit that a round does not refuse.
 """
 
 import re
@@ -37,6 +37,7 @@ UNREAD = re.compile(
 # An error that says only that a name is gone, or that a proof rests on another one that is refused.
 NAMES = re.compile(r"has no field|is not in scope|has no `|was not admitted")
 LIMIT = re.compile(r"rattle: no verdict.*")
+NAMED = re.compile(r"(?m)^only: (\S+)$")
 
 
 class Tried(NamedTuple):
@@ -76,7 +77,9 @@ def bodies(text, file):
 
 
 def functions_in(folder, edit):
-    """The functions whose bodies an edit changes; none where it changes something else, or cannot be applied."""
+    """The functions whose bodies an edit changes, or that it names; none where it changes something else, or cannot be applied."""
+    if named := NAMED.findall(edit.text):
+        return set(named)
     found = set()
     before, after = edited(folder, edit) or ({}, {})
     for file in before:
