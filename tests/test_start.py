@@ -12,8 +12,8 @@ ten lines, commands and files together.
 The door `documents` is the blocks of the other documents that say `run: start`. They are run in a clone. A block under `prints` further
 down must be what the last of them printed, and one under `prints in the end` its end.
 
-Doors with the same first block share a folder, where that block is run once; others run side by side. tools/setup installs what a door
-lacks. Commands, comparisons and counts of lines are counted.
+Doors with the same first block share a folder, where that block is run once; others run side by side. They share what cargo compiles, and
+it optimizes less than a user's would. tools/setup installs what a door lacks. Commands, comparisons and counts of lines are counted.
 """
 
 import os
@@ -43,6 +43,12 @@ NEEDS = {
     "documents": ["plain"],
 }
 MOST_LINES = 10
+# A door is about commands, not about the speed of what they build; other parts of the gate test that.
+QUICK_BUILDS = {
+    "CARGO_PROFILE_RELEASE_LTO": "off",
+    "CARGO_PROFILE_RELEASE_OPT_LEVEL": "0",
+    "CARGO_PROFILE_RELEASE_CODEGEN_UNITS": "16",
+}
 # In the gate a door gets the processors that the proofs leave.
 SECONDS = 5400
 PRINTS = ("prints", "prints in the end")
@@ -181,7 +187,7 @@ class Visit:
             done = subprocess.run(
                 ["bash", "-o", "pipefail", "-c", words],
                 cwd=self.at,
-                env=environment(),
+                env=environment() | {"CARGO_BUILD_BUILD_DIR": str(self.room.parent / "build")},
                 capture_output=True,
                 text=True,
                 errors="replace",
@@ -236,7 +242,7 @@ def environment():
     """The environment, without variables that would change what commands build or print."""
     taken = ("GEN1_LIBRARY", "PYTHONPATH", "CARGO_TARGET_DIR", "VIRTUAL_ENV", "GIT_DIR", "GIT_WORK_TREE")
     of_make = ("MAKEFLAGS", "MAKELEVEL", "MFLAGS")
-    return {key: value for key, value in os.environ.items() if key not in taken + of_make}
+    return {key: value for key, value in os.environ.items() if key not in taken + of_make} | QUICK_BUILDS
 
 
 @cache

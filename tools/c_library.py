@@ -29,6 +29,12 @@ const char *gen1_build(void) {{ return "{text}"; }}
 CALL = re.compile(r"(?m)^[a-z]\w*[\w *]*?\b(gen1_\w+)\(")
 VERSION = re.compile(r'(?m)^#define GEN1_VERSION "(\d+)\.(\d+)\.(\d+)"$')
 PLAIN_FEATURES = ("--no-default-features", "--features", "panic_handler")
+# The library's one object needs none of core's. That holds where all is optimized as a whole.
+PLAIN_PROFILE = {
+    "CARGO_PROFILE_RELEASE_CODEGEN_UNITS": "1",
+    "CARGO_PROFILE_RELEASE_LTO": "fat",
+    "CARGO_PROFILE_RELEASE_OPT_LEVEL": "3",
+}
 
 
 class Unbuilt(Exception):
@@ -72,7 +78,7 @@ def ran(*words, cwd=ROOT, env=None):
 
 def plain_build(profile):
     """Builds the C library of the plain sources with nothing of std, and returns the folder that it is in."""
-    target, env = ROOT / "target" / "c", {**os.environ, "GEN1_BUILD": plain_origin()}
+    target, env = ROOT / "target" / "c", {**os.environ, **PLAIN_PROFILE, "GEN1_BUILD": plain_origin()}
     ran(
         "cargo", "build", "-q", "--profile", profile, "-p", "gen1-ffi", *PLAIN_FEATURES, "--target-dir", target, env=env
     )
