@@ -77,7 +77,7 @@ def checked(crate, folder, *words, gives_way=True):
     A check that gives way takes the processor time that other work leaves. One that is killed, most likely for memory, is made once more.
     """
     rt = rt_module()
-    nice = ["nice"] if gives_way else []
+    nice = ["nice", "-n", "19"] if gives_way else []
     command = [*rt.guarded(), *nice, rt.RATTLE, "check", *crate.words(["--jobs", "1", *words], keeps=False)]
     how = {
         "cwd": folder,
