@@ -2,7 +2,7 @@
 
 A corner is a combination of rules that battles seldom reach. Whether a recorded update (tests/battles) comes to it is read from its
 bytes and its log. Each corner needs a recorded update and a worked example. The checker computes the examples, and test_definitions.py
-does so apart from the prover; trace_tool plays the updates through `Battle`, and test_definitions.py by the definitions. In a file of
+does so apart from the prover; tests/calls plays the updates by the C library, and test_definitions.py by the definitions. In a file of
 recorded battles lines and updates count from 0. `pytest -rP` shows the corners with their updates.
 """
 

@@ -1,30 +1,24 @@
-"""Compares programs with recorded cases, to the byte (tests/battles/README.md).
+"""Compares battle_tool with its recorded runs, to the byte (tests/battles/README.md).
 
-    pytest tests/test_recorded.py                                        the proved programs, where they are built
-    pytest tests/test_recorded.py -k runs --program FILE                 FILE in place of battle_tool
-    pytest tests/test_recorded.py -k 'runs and calc' --program FILE      the cases whose name, or whose file's name, has a word
+    pytest tests/test_recorded.py                            the proved program, where it is built
+    pytest tests/test_recorded.py --program FILE             another program that takes the same arguments (docs/PROGRAM.md)
+    pytest tests/test_recorded.py -k calc --program FILE     the runs whose name, or whose file's name, has a word
 
-`runs` are those of battle_tool, or of another program that takes the same arguments (docs/PROGRAM.md): standard output, status and
-standard error. `updates` and `loads` are those of trace_tool: after each pair of choices the refusal, the result, the choices that are
-then offered, the draws, the log and all 384 bytes; and of each byte string the number of its fault, or 0 and the bytes in the form of
-version 3 (docs/LAYOUT.md, "Loading"). The first difference of each case is printed.
+Compared are standard output, the status and, where it is recorded, standard error. The first difference of each run is printed.
 """
 
-import json
 import re
 import subprocess
 from concurrent.futures import ThreadPoolExecutor
-from itertools import islice, zip_longest
+from itertools import zip_longest
 
 import pytest
-from battles import CASES, TRACES, cases, loads, newest_form, recorded, traces
+from battles import CASES, cases, recorded
 from repository import ROOT, processors, program
 
 SECONDS = 120
 # A line with its end, if it has one.
 LINE = re.compile(r"[^\n]*\n|[^\n]+")
-# The words of the line that trace_tool prints for an update.
-WORDS = ("refusal", "result", "offered to side 1", "offered to side 2", "draws", "log", "bytes")
 
 
 def tool(config, name):
@@ -47,8 +41,6 @@ def pytest_generate_tests(metafunc):
     if "run" in metafunc.fixturenames:
         found = list(recorded_runs(metafunc.config))
         metafunc.parametrize("run", [case for _, case in found], ids=[name for name, _ in found])
-    if "traced" in metafunc.fixturenames:
-        metafunc.parametrize("traced", TRACES)
 
 
 @pytest.fixture(scope="session")
@@ -93,65 +85,3 @@ def shown(line):
 def test_runs(run, faults):
     if fault := faults[id(run)].result():
         pytest.fail(fault, pytrace=False)
-
-
-def word(items):
-    """A list of numbers as one word."""
-    return ",".join(map(str, items)) or "-"
-
-
-def line_of(update):
-    """The words of an update as trace_tool prints them."""
-    refused = "-" if update["refused"] is None else str(update["refused"])
-    offered = [word(choices) for choices in update["offered"]]
-    return [
-        refused,
-        word(update["result"] or []),
-        *offered,
-        str(update["draws"]),
-        update["log"] or "-",
-        update["bytes"],
-    ]
-
-
-def difference(got, want):
-    """The first difference between an update as played and as recorded; empty where there is none."""
-    for name, one, other in zip_longest(WORDS, got, want, fillvalue="nothing"):
-        if one == other:
-            continue
-        if name != "bytes" or len(one) != len(other):
-            return f"{name} {one}, not {other}"
-        at = next(at for at in range(0, len(one), 2) if one[at : at + 2] != other[at : at + 2])
-        return f"byte {at // 2} is {one[at:at + 2]}, not {other[at:at + 2]}"
-    return ""
-
-
-def test_updates(traced, pytestconfig, battles, compared):
-    trace_tool, played = tool(pytestconfig, "trace_tool"), traces(recorded(f"{traced}.jsonl", battles))
-    asked = "".join(json.dumps(battle["object"]) + "\n" for battle in played)
-    ran = subprocess.run([trace_tool], input=asked, capture_output=True, text=True)
-    printed, faults = (line.split(" ") for line in ran.stdout.splitlines()), []
-    for number, battle in enumerate(played, 1):
-        wants = [line_of(update) for update in battle["updates"]]
-        both = zip_longest(islice(printed, len(wants)), wants, fillvalue=())
-        name = f" ({battle['corner']})" if "corner" in battle else ""
-        faults += [
-            f"{traced}, line {number}{name}, pair {pair}: {fault}"
-            for pair, it in enumerate(both)
-            if (fault := difference(*it))
-        ]
-    behind = len(list(printed))
-    if behind or ran.returncode:
-        faults.append(f"{traced}: {behind} lines too many, status {ran.returncode}: {ran.stderr.strip()}")
-    compared(sum(len(battle["updates"]) for battle in played), faults)
-
-
-def test_loads(pytestconfig, battles, compared):
-    trace_tool, strings = tool(pytestconfig, "trace_tool"), loads(recorded("loads.txt", battles))
-    asked = "".join(f"{string.hex()}\n" for _, string in strings)
-    ran = subprocess.run([trace_tool], input=asked, capture_output=True, text=True)
-    wants = (str(fault) if fault else f"0 {newest_form(string).hex()}" for fault, string in strings)
-    both = zip_longest(ran.stdout.splitlines(), wants, fillvalue="nothing")
-    faults = [f"line {number}: {got}, not {want}" for number, (got, want) in enumerate(both, 1) if got != want]
-    faults += [f"status {ran.returncode}: {ran.stderr.strip()}"] if ran.returncode else []
-    compared(len(strings), faults)

@@ -23,7 +23,7 @@ LAYERS = (
     (
         "Programs and C",
         "files, JSON, command lines, exit statuses and pointers; no rules of battle",
-        ("battle_tool", "battle_commands", "battle_input", "trace_tool", "gen1_c"),
+        ("battle_tool", "battle_commands", "battle_input", "gen1_c"),
     ),
     (
         "Battle",
