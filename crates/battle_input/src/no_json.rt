@@ -13,7 +13,7 @@ const LIST: u8 = 0;
 const OBJECT: u8 = 1;
 
 /// What may come next in a JSON text. `true` is for the text of a key.
-#[derive(Clone, Copy, Debug, PartialEq, Eq)]
+#[derive(Clone, Copy)]
 pub(crate) enum Stand {
     /// A value.
     Value,

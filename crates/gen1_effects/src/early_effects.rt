@@ -109,7 +109,7 @@ pub fn group_one_knowing<R: Rolls, S: EventSink>(
 }
 
 // The ways of early effects.
-#[derive(Clone, Copy, Debug, PartialEq, Eq)]
+#[derive(Clone, Copy)]
 enum Way {
     Fails,
     Conversion,

@@ -36,7 +36,7 @@ pub fn alike_to(damage_classes: u8, look: Look, byte: u8, among: &ByteSet) -> By
 }
 
 /// Parts of a damage, one after the other.
-#[derive(Clone, Copy, PartialEq, Eq, Debug, Drop)]
+#[derive(Clone, Copy, Drop)]
 pub(crate) struct Run {
     /// The least of them.
     pub(crate) first: u16,

@@ -8,7 +8,7 @@ use gen1_rolls::{ByteTest, Look};
 use std::marker::Model;
 
 /// A draw or a search, and the byte that was returned.
-#[derive(Clone, Copy, PartialEq, Eq, Debug, Drop)]
+#[derive(Clone, Copy, Drop)]
 pub(crate) enum Entry {
     /// A draw, of which the look was seen.
     Draw(Look, u8),

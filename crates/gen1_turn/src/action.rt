@@ -113,7 +113,7 @@ fn keeps_accuracy(battle: &Packed, side: Side) -> bool
 }
 
 // How the damage of a move is found.
-#[derive(Clone, Copy, Debug, PartialEq, Eq)]
+#[derive(Clone, Copy)]
 pub(crate) enum Way {
     Counter,
     Fixed,
