@@ -1,14 +1,16 @@
 """Which definitions, code, worked examples, edits and tests belong to each section of the documents.
 
-A file, a function, a type, an example and a test belong to the sections that their comments cite (citations.py). An
-edit belongs to what it changes: the function, table or definition around its first `old:` text.
+A file, a function, a type, an example and a test belong to the sections that their comments cite (citations.py), and a
+test in tests/test_faults.py to those that its docstring cites. An edit belongs to what it changes: the function, table or
+definition around its first `old:` text.
 """
 
+import ast
 import re
 from pathlib import Path
 from typing import NamedTuple
 
-from citations import COMMENT, DOCUMENTS, FUNCTION, Section, Source, sections
+from citations import COMMENT, DOCUMENTS, FUNCTION, Section, Source, cited, sections
 from repository import ROOT, crates, edited, edits
 
 KINDS = ("definition", "code", "laws", "worked example", "tests", "edits")
@@ -104,6 +106,14 @@ class Rules:
                     name = next(found[1] for below in source.lines[at + 1 :] if (found := FUNCTION.match(below)))
                     self.add(source.own(at), Item("tests", file, at + 2, name, source.documented(at)))
 
+    def program_tests(self):
+        """Tests that play battle_tool."""
+        file = ROOT / "tests" / "test_faults.py"
+        for it in ast.parse(file.read_text()).body:
+            if isinstance(it, ast.FunctionDef) and it.name.startswith("test_"):
+                told = " ".join((ast.get_docstring(it) or "").split())
+                self.add(cited(told), Item("tests", file, it.lineno, it.name, told))
+
     def examples(self):
         for file in sorted((ROOT / "crates").glob("*/proofs/Worked*.antt")):
             source = Source(file)
@@ -156,6 +166,7 @@ def collected():
     """The rules of the repository."""
     rules = Rules()
     rules.tests()
+    rules.program_tests()
     for name in crates():
         for folder in ("must-fail", "planted"):
             rules.edits(name, folder)

@@ -1,7 +1,7 @@
-//! What is read and printed where memory is refused.
-use crate::setting::assert_same;
-use crate::tests::TEXT;
-use gen1_machine::{Device, InputFault, read_whole};
+//! What is read and printed where memory is refused (docs/PROGRAM.md, "Faults and statuses").
+use crate::devices::{TWO_TURNS, assert_same};
+use battle_commands::text_of;
+use gen1_machine::{Device, Event, EventList, InputFault, read_whole};
 use gen1_printer::{PrintFault, print_log};
 use linked_list_allocator::LocalHeap;
 use std::test::Fail;
@@ -57,7 +57,7 @@ fn each_growth_of_a_text_that_is_refused_is_told(rt: HostRuntime) -> Result<(), 
     for step in 0..60usize {
         let heap = LocalHeap::new(rt.alloc(), 32 * step)?;
         match print_log(&heap, &LOG) {
-            Ok(text) => assert_same(&rt, text.as_str(), TEXT),
+            Ok(text) => assert_same(&rt, text.as_str(), TWO_TURNS),
             Err(fault) => {
                 assert_same(&rt, fault, PrintFault::Memory);
                 refused = refused.saturating_add(1);
@@ -65,5 +65,27 @@ fn each_growth_of_a_text_that_is_refused_is_told(rt: HostRuntime) -> Result<(), 
         }
     }
     assert_same(&rt, (5 < refused, refused < 60), (true, true));
+    Ok(())
+}
+
+#[test]
+fn each_heap_that_is_too_small_is_told(rt: HostRuntime) -> Result<(), Fail> {
+    let mut events = EventList::new();
+    for _ in 0..64usize {
+        if !events.is_full() {
+            events.push(Event::ClearAll);
+        }
+    }
+    let whole = text_of(rt.alloc(), events.as_slice())?;
+    assert_same(&rt, whole.len(), 16 * 64);
+    let mut refused = 0u32;
+    for step in 0..40usize {
+        let heap = LocalHeap::new(rt.alloc(), 128 * step)?;
+        match text_of(&heap, events.as_slice()) {
+            Ok(text) => assert_same(&rt, text.as_slice(), whole.as_slice()),
+            Err(_) => refused = refused.saturating_add(1),
+        }
+    }
+    assert_same(&rt, (5 < refused, refused < 40), (true, true));
     Ok(())
 }

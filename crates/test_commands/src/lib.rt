@@ -1,22 +1,13 @@
-//! Tests of the subcommands of `battle_tool`, and of what plain Rust lacks: whole inputs, and devices and heaps that fail.
+//! Tests of devices and heaps that fail, and of laws, which plain Rust lacks.
 //!
-//! - `tests`: `run`, `calc`, `print` and the command line
-//! - `rooms`: `room`
-//! - `explained`: `--explain` and `log`
+//! - `devices`: subcommands of `battle_tool` on devices that fail
 //! - `heaps`: what is read and printed where memory is refused
 //! - `laws`: each law once
-//! - `setting`: what the others share
 #![tactic(auto)]
 
 #[cfg(test)]
-mod explained;
+mod devices;
 #[cfg(test)]
 mod heaps;
 #[cfg(test)]
 mod laws;
-#[cfg(test)]
-mod rooms;
-#[cfg(test)]
-mod setting;
-#[cfg(test)]
-mod tests;
