@@ -1251,7 +1251,7 @@ typedef struct gen1_state_fault {
 } gen1_state_fault;
 
 enum {
-    GEN1_FIELD_UNNAMED = 0,          /* no single field */
+    GEN1_FIELD_UNNAMED = 0,          /* no fault has it */
     GEN1_FIELD_LIMIT = 1,            /* the turn limit */
     GEN1_FIELD_TURN = 2,             /* the turn */
     GEN1_FIELD_INDEX = 3,            /* the index of the next link number */

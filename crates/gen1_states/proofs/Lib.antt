@@ -1,4 +1,5 @@
--- A battle's plain state gives its bytes.
-pub mod There
--- A battle that was made of a plain state has it.
-pub mod Back
+-- A battle's plain state gives its bytes, and a battle that was made of a plain state has it.
+pub mod ThereAndBack
+-- A plain state that passes all tests is a battle.
+pub mod Passing
+pub mod PassingStates

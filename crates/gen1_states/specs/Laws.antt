@@ -1,7 +1,7 @@
 -- What holds for all plain states (docs/LAYOUT.md, "Plain states").
-use Rattle.std.specs.Prelude.{List, length, slice_index, ℕ, ◌<◌, ◌≡◌}
+use Rattle.std.specs.Prelude.{List, Ok, length, slice_index, ℕ, ◌<◌, ◌≡◌}
 use Rattle.gen1_machine.specs.State.{State}
-use Rattle.gen1_layout.specs.LoadingLaws.{IsBattle}
+use Rattle.gen1_layout.specs.LoadingLaws.{AreBytes, IsBattle}
 use Rattle.gen1_layout.specs.Parts.{parts_of, Parts}
 use Rattle.gen1_layout.specs.Shows.{Stands}
 use Rattle.gen1_states.specs.declared.plain.ActiveState.{ActiveState}
@@ -9,7 +9,7 @@ use Rattle.gen1_states.specs.declared.plain.BattleState.{BattleState}
 use Rattle.gen1_states.specs.declared.plain.MemberState.{MemberState}
 use Rattle.gen1_states.specs.declared.plain.SideState.{SideState}
 use Rattle.gen1_states.specs.Plain.{bytes_of, first_side, member_at, second_side}
-use Rattle.gen1_states.specs.Tests.{completed}
+use Rattle.gen1_states.specs.Tests.{completed, tested}
 use Rattle.gen1_states.specs.Reading.{state_of}
 
 -- The plain state of a battle is accepted, and gives the same battle.
@@ -56,3 +56,7 @@ pub record IsPlain (b : BattleState) : Type 0 where
 -- A battle that was made of a plain state with its current stats has this plain state.
 abbrev pub ComesBack : Type 0
 ComesBack = (b : BattleState) (s : State) → IsPlain b → Stands (parts_of (bytes_of b)) s → state_of s ≡ b
+
+-- A plain state that passes all tests of its fields is a battle.
+abbrev pub TestedAreBattles : Type 0
+TestedAreBattles = (b : BattleState) → IsPlain b → AreBytes (bytes_of b) → tested b ≡ Ok tt → IsBattle (bytes_of b)

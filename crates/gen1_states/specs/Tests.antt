@@ -1,5 +1,5 @@
 -- The first field of a plain state that is wrong, in the order in which loading tests the bytes (docs/LAYOUT.md, "Plain states").
-use Rattle.std.specs.Prelude.{Bool, List, [], not, slice_index, true, ℕ, ◌%◌, ◌&&◌, ◌==◌, ◌||◌, ◌∷◌, if◌then◌else◌, nat_le, ◌+◌, ◌-◌, nat_lt, min, max, suc, zero, ◌/◌, Err, Ok}
+use Rattle.std.specs.Prelude.{Bool, List, [], false, not, ◌<◌, ◌≡◌, ◌≢◌, ◌⊎◌, slice_index, true, ℕ, ◌%◌, ◌&&◌, ◌==◌, ◌||◌, ◌∷◌, if◌then◌else◌, nat_le, ◌+◌, ◌-◌, nat_lt, min, max, suc, zero, ◌/◌, Err, Ok}
 use Rattle.gen1_layout.specs.Loading.{may_be_known, effect_of_number}
 use Rattle.gen1_states.specs.declared.fault.Test.{Test}
 use Rattle.gen1_states.specs.declared.plain.MemberState.{MemberState}
@@ -290,6 +290,8 @@ tested b =
     ▸ tested_stats (first_side b) 1 (not (b.turn == 0)) ▸ tested_stats (second_side b) 2 (not (b.turn == 0))
     ▸ tested_requests b
 
+-- The first test that fails. A state that passes all of them is a battle (TestedAreBattles), and is not refused.
+
 abbrev pub unnamed : StateFault
 unnamed = record { field = fields.Unnamed; side = 0; place = 0; index = 0; value = 0; low = 0; high = 0 }
 
@@ -299,3 +301,17 @@ fault_in (Ok passed) = unnamed
 
 abbrev pub fault_of : BattleState → StateFault
 fault_of b = fault_in (tested b)
+
+-- The fields that have a rule besides their range.
+abbrev pub has_rule : StateField → Bool
+has_rule fields.Outcome = true
+has_rule fields.Move = true
+has_rule fields.CurrentMove = true
+has_rule fields.PickedMove = true
+has_rule fields.CurrentStat = true
+has_rule _ = false
+
+-- A fault names a field. The value is outside its range, unless the field has a further rule.
+pub record IsNamed (fault : StateFault) : Type 0 where
+  pub field : fault.field ≢ fields.Unnamed
+  pub value : has_rule fault.field ≡ false → (fault.value < fault.low) ⊎ (fault.high < fault.value)

@@ -2,7 +2,8 @@
 //! which loading refuses.
 ghost use Rattle.std.specs.Prelude.{◌+◌, ◌++◌, ◌≡◌, ◌≤◌, length};
 ghost use Rattle.gen1_machine.specs.Layout.{high_byte, low_byte};
-ghost use Rattle.gen1_states.specs.Plain.{active_bytes, awake_byte, bytes_of, header_bytes, member_bytes, side_after, status_byte};
+ghost use Rattle.gen1_states.specs.Laws.{IsPlainActive, IsPlainMember, IsPlainSide};
+ghost use Rattle.gen1_states.specs.Plain.{active_bytes, awake_byte, bytes_of, first_side, header_bytes, member_bytes, second_side, side_after, status_byte};
 
 use crate::plain::{
     ActiveState, BattleState, MemberState, SideState, first_side, member_at, second_side,
@@ -16,7 +17,9 @@ pub(crate) type Bytes = ArrayVec<u8, 384>;
 /// The bytes of a state whose current stats are complete.
 #[tactic(auto, unfolding(crate::specs::Plain::bytes_of))]
 pub(crate) fn bytes_of(state: &BattleState) -> Bytes
-    ensures { result.items ≡ bytes_of state.now }
+    ensures value { result.items ≡ bytes_of state.now }
+    ensures one { IsPlainSide (first_side state.now) }
+    ensures two { IsPlainSide (second_side state.now) }
 {
     let mut bytes = Bytes::new();
     put(&mut bytes, &header_bytes(state));
@@ -30,6 +33,7 @@ fn put_side(bytes: &mut Bytes, side: &SideState)
     requires { length bytes.old.items + 180 ≤ 384 }
     ensures items { bytes.new.items ≡ side_after bytes.old.items side.now }
     ensures len { length bytes.new.items ≡ length bytes.old.items + 180 }
+    ensures plain { IsPlainSide side.now }
 {
     put(bytes, &member_bytes(member_at(side, 0)));
     put(bytes, &member_bytes(member_at(side, 1)));
@@ -81,7 +85,8 @@ fn header_bytes(state: &BattleState) -> [u8; 24]
 }
 
 fn member_bytes(member: &MemberState) -> [u8; 24]
-    ensures { result ≡ member_bytes member.now }
+    ensures value { result ≡ member_bytes member.now }
+    ensures plain { IsPlainMember member.now }
 {
     let (stats, moves, pp) = (&member.stats, &member.moves, &member.pp);
     [
@@ -143,7 +148,8 @@ fn awake_byte(kind: u8) -> u8
 }
 
 fn active_bytes(active: &ActiveState) -> [u8; 36]
-    ensures { result ≡ active_bytes active.now }
+    ensures value { result ≡ active_bytes active.now }
+    ensures plain { IsPlainActive active.now }
 {
     let (types, stages, stats) = (&active.types, &active.stages, &active.stats);
     let conditions = active.conditions;

@@ -5,7 +5,7 @@ ghost use Rattle.gen1_states.specs.Plain.{fault_at, field_number, first_of, on, 
 /// The field of a plain state that is wrong. The order is that of the tests.
 #[derive(Clone, Copy, Debug, PartialEq, Eq)]
 pub enum StateField {
-    /// No single field.
+    /// No field. No fault has it.
     Unnamed,
     Limit,
     Turn,

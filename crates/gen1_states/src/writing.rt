@@ -1,10 +1,10 @@
 //! A battle of a plain state, the first field of the state that is wrong, in the order in which loading tests them, and
 //! the tests of the fields of the whole battle (docs/LAYOUT.md, "Plain states", "Header").
-ghost use Rattle.std.specs.Prelude.{IfErr, IfOk, IsOk, ◌↔◌, ◌≡◌};
+ghost use Rattle.std.specs.Prelude.{Err, IfErr, IfOk, IsOk, ◌↔◌, ◌≡◌};
 ghost use Rattle.gen1_layout.specs.LoadingLaws.{IsBattle, StandsForSome};
 ghost use Rattle.gen1_layout.specs.Parts.{parts_of};
 ghost use Rattle.gen1_states.specs.Plain.{bytes_of, header_tests, request_test, tested_header};
-ghost use Rattle.gen1_states.specs.Tests.{completed, fault_of, tested, unnamed};
+ghost use Rattle.gen1_states.specs.Tests.{IsNamed, completed, fault_of, tested};
 
 use crate::active_tests::test_active;
 use crate::bytes::bytes_of;
@@ -20,17 +20,23 @@ use gen1_layout::Packed;
 ///
 /// # Errors
 ///
-/// The first field that is wrong, in the order in which loading tests the bytes.
+/// The first field that is wrong, in the order in which loading tests the bytes. Its value is outside its range, or
+/// breaks the field's further rule.
 pub fn from_state(state: &BattleState) -> Result<Packed, StateFault>
     ensures accepts { IsOk result ↔ IsBattle (bytes_of (completed state.now)) }
     ensures value { IfOk result (λ battle. battle ≡ parts_of (bytes_of (completed state.now))) }
     ensures stands { IfOk result (λ battle. StandsForSome battle) }
     ensures fault { IfErr result (λ fault. fault ≡ fault_of (completed state.now)) }
+    ensures tested { IfErr result (λ fault. tested (completed state.now) ≡ Err fault) }
+    ensures named { IfErr result (λ fault. IsNamed fault) }
 {
     let whole = completed(state);
     match Packed::read(bytes_of(&whole).as_slice()) {
         Ok(battle) => Ok(battle),
-        Err(_) => Err(fault_of(&whole)),
+        Err(_) => match test_state(&whole) {
+            Err(fault) => Err(fault),
+            Ok(()) => unreachable!(),
+        },
     }
 }
 
@@ -50,30 +56,6 @@ fn test_state(state: &BattleState) -> Result<(), StateFault>
     test_stats(one, 1, begun)?;
     test_stats(two, 2, begun)?;
     test_requests(state)
-}
-
-/// The first field that is wrong, in a state that loading refuses.
-fn fault_of(state: &BattleState) -> StateFault
-    ensures { result ≡ fault_of state.now }
-{
-    match test_state(state) {
-        Err(fault) => fault,
-        Ok(()) => unnamed(),
-    }
-}
-
-fn unnamed() -> StateFault
-    ensures { result ≡ unnamed }
-{
-    StateFault {
-        field: StateField::Unnamed,
-        side: 0,
-        place: 0,
-        index: 0,
-        value: 0,
-        low: 0,
-        high: 0,
-    }
 }
 
 /// The first field of the header that is wrong.

@@ -1,4 +1,4 @@
-use Rattle.gen1_states.proofs.There.{goes_back}
+use Rattle.gen1_states.proofs.ThereAndBack.{goes_back}
 use Rattle.gen1_states.proofs.laws.plain_states_go_back.Goals as goal
 
 pub returns : goal.returns

@@ -1,6 +1,6 @@
 use Rattle.std.proofs.Common.{refl, sym, ◌∙◌, ◌≡◌}
 use Rattle.gen1_layout.specs.Shows.{setting_of}
-use Rattle.gen1_states.proofs.There.{packs_of, not_zero, within_out}
+use Rattle.gen1_states.proofs.ThereAndBack.{packs_of, not_zero, within_out}
 use Rattle.gen1_states.proofs.reading.active_now.Goals as goal
 
 pub returns-then-turn-eq0 : goal.returns-then-turn-eq0

@@ -2,7 +2,7 @@ use Rattle.std.proofs.Common.{[], refl, ◌∷◌, ◌≤◌}
 use Rattle.std.proofs.lemmas.List.Elements.{All-from_recursion}
 use Rattle.gen1_layout.specs.Shows.{setting_of}
 use Rattle.gen1_states.specs.declared.plain.MemberState.{MemberState}
-use Rattle.gen1_states.proofs.There.{packs_of}
+use Rattle.gen1_states.proofs.ThereAndBack.{packs_of}
 use Rattle.gen1_states.proofs.reading.side_state.Goals as goal
 
 pub returns-clause-stands : goal.returns-clause-stands

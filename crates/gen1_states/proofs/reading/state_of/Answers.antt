@@ -2,7 +2,7 @@ use Rattle.std.proofs.Common.{[], refl, ◌∙◌, ◌∷◌}
 use Rattle.std.proofs.lemmas.List.Elements.{All-from_recursion}
 use Rattle.gen1_layout.specs.Shows.{setting_of}
 use Rattle.gen1_states.specs.Reading.{HasKinds}
-use Rattle.gen1_states.proofs.There.{packs_of, viewed}
+use Rattle.gen1_states.proofs.ThereAndBack.{packs_of, viewed}
 use Rattle.gen1_states.proofs.reading.state_of.Goals as goal
 
 pub returns-clause-stands : goal.returns-clause-stands
