@@ -17,10 +17,9 @@ refuses fails, unless tests/definitions/same_meaning.txt says why it means the s
 doesn't exist fails too. `pytest -rP` shows a table of the mutants by module.
 """
 
-import gc
-import multiprocessing
 import subprocess
 from collections import Counter
+from itertools import tee
 
 import pytest
 from definitions.coverage import Coverage, forked
@@ -39,8 +38,10 @@ machine, players, played_battles, trial = None, None, [], None
 
 
 def played(number):
-    """The number of a battle, and its first difference."""
-    return number, play(machine, played_battles[number]) or players.fault(played_battles[number])
+    """The number of a battle, and its first difference. Each update is computed once."""
+    battle = played_battles[number]
+    first, second = tee(machine.updates(battle))
+    return number, play(machine, battle, first) or players.fault(battle, second)
 
 
 def test_battles(battles, compared):
@@ -48,8 +49,7 @@ def test_battles(battles, compared):
     played_battles, machine = list(battles_in([battles])), Machine()
     players = Players(machine)
     longest_first = sorted(range(len(played_battles)), key=lambda number: -len(played_battles[number].pairs))
-    gc.freeze()  # all processes share what exists already
-    with multiprocessing.get_context("fork").Pool(processors()) as pool:
+    with forked(processors()) as pool:
         faults = {number: fault for number, fault in pool.imap_unordered(played, longest_first) if fault}
     compared(len(played_battles), (f"{played_battles[number].name}: {faults[number]}" for number in sorted(faults)))
 
@@ -96,6 +96,7 @@ def try_all(battles, part):
     coverage = Coverage([battle for battle in battles_in([battles]) if battle.traced])
     coverage.count_battles(processors())
     trial = Trial(coverage)
+    trial.play_battles()
     with forked(processors()) as pool:
         refused = dict(pool.imap_unordered(tried, chosen(trial.mutants, part), chunksize=4))
     return [(trial.mutants[number], refused[number]) for number in sorted(refused)], coverage

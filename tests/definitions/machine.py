@@ -71,6 +71,14 @@ class Machine:
         one, two = (self.team_of(tuple(map(self.sheet, battle.given[side]))) for side in ("one", "two"))
         return self.first_state(terms, one, two, tuple(battle.given["seed"]))
 
+    def updates(self, battle):
+        """The updates of a recorded battle: the state before each, and what the step makes of it."""
+        state = self.begin(battle)
+        for pair in battle.pairs:
+            stepped = self.step(state, *map(self.choice, pair))
+            yield state, stepped
+            state = stepped.state
+
     def first_seen(self, state):
         """What a spectator knows before the first update."""
         return self.first_view(state.field.one.members, state.field.two.members)
@@ -130,25 +138,20 @@ def difference(update, made):
     return f"{len(made) - at} bytes too many"
 
 
-def play_trace(machine, battle):
+def play_trace(machine, battle, updates):
     """The first difference of a battle with its updates; None where all are as recorded."""
-    state = machine.begin(battle)
-    view = machine.first_seen(state)
-    for number, update in enumerate(battle.line["updates"]):
-        stepped = machine.step(state, *map(machine.choice, update["pair"]))
+    for number, (update, (state, stepped)) in enumerate(zip(battle.line["updates"], updates)):
+        view = view if number else machine.first_seen(state)
         made, view = machine.reported(state, view, stepped)
         if made != recorded_report(update):
             return f"update {number}, {difference(update, made)}"
-        state = stepped.state
     return None
 
 
-def play_run(machine, battle):
+def play_run(machine, battle, updates):
     """The first difference between the recorded output and the lines of the definitions; None where there is none."""
-    state, left = machine.begin(battle), battle.line["stdout"].encode()
-    refused = REFUSED.fullmatch(battle.line["stderr"])
-    for number, pair in enumerate(battle.pairs):
-        stepped = machine.step(state, *map(machine.choice, pair))
+    left, refused = battle.line["stdout"].encode(), REFUSED.fullmatch(battle.line["stderr"])
+    for number, (_, stepped) in enumerate(updates):
         made = refusal_number(stepped.answer)
         expected = int(refused[2]) if refused and int(refused[1]) == number else 0
         if made != expected:
@@ -158,13 +161,13 @@ def play_run(machine, battle):
         lines = bytes(machine.lines(events_of(stepped.answer)))
         if not left.startswith(lines):
             return f"pair {number}, lines: {left[:len(lines)]!r} was recorded, not {lines!r}"
-        left, state = left[len(lines) :], stepped.state
+        left = left[len(lines) :]
     return f"behind the last pair: {left!r} was recorded" if left or refused else None
 
 
-def play(machine, battle):
-    """The first difference between a recorded battle and the one that the definitions play; None where there is none."""
+def play(machine, battle, updates):
+    """The first difference between a recorded battle and its updates by the definitions; None where there is none."""
     try:
-        return (play_trace if battle.traced else play_run)(machine, battle)
+        return (play_trace if battle.traced else play_run)(machine, battle, updates)
     except FAULTS as fault:
         return f"the definitions give no value: {fault!r}"

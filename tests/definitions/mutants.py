@@ -244,6 +244,11 @@ class Trial:
         """The updates of a battle by the unchanged machine."""
         return list(updates_of(self.as_is, self.coverage.battles[number]))
 
+    def play_battles(self):
+        """Plays all battles, which processes that are forked later share. Each of them would play nearly all."""
+        for number in range(len(self.coverage.battles)):
+            self.updates(number)
+
     def refusal(self, mutant):
         """What refuses a mutant; None where nothing does."""
         compiler = self.machine.compiler

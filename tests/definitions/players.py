@@ -56,19 +56,18 @@ class Players:
         self.number_of = function("Rattle.gen1_tables.specs.Types", "number_of")
         self.told, self.meets = function(TELLING, "told"), function(TELLING, "meets")
 
-    def fault(self, battle):
+    def fault(self, battle, updates):
         """The first difference in a battle, after any of its updates; None where there is none."""
-        state, public, lost, sleepers = self.machine.begin(battle), self.first, Counter(), Sleepers()
+        public, lost, sleepers = self.first, Counter(), Sleepers()
         players = [Told(self, side, pixels) for side, pixels in ((1, 0), (2, 1), (1, 2))]
-        for number, pair in enumerate(battle.pairs):
-            stepped = self.machine.step(state, *map(self.machine.choice, pair))
+        for number, (before, stepped) in enumerate(updates):
             for event in events_of(stepped.answer):
                 public = self.hears(event, public)
                 sleepers.hear(event)
                 for player in players:
                     player.hear(event)
-            lost.update(self.lost(state.field, stepped.state.field))
             state = stepped.state
+            lost.update(self.lost(before.field, state.field))
             uses, slept = self.uses(state.field, public, lost), self.sleeps(state.field, public, sleepers, battle.rules)
             for what, told, held in chain(self.parts(state.field, public), uses, slept):
                 if told != held:
