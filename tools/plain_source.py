@@ -102,7 +102,8 @@ class Source:
 
     def find(self, words):
         """The places where the code has these words."""
-        return [place for place in range(len(self.code)) if self.is_at(place, words)]
+        first = words.split()[0]
+        return [place for place, token in enumerate(self.code) if token.text == first and self.is_at(place, words)]
 
     def next_at(self, place, text):
         while self.code[place].text != text:
