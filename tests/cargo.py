@@ -18,9 +18,10 @@ def want_cargo():
         pytest.skip("cargo or a published crate is missing; `make setup` installs it")
 
 
-def built(package, *, release):
-    """Builds a program of the workspace, and returns the folder that it is in."""
-    ran("cargo", "build", "-q", *["--release"] * release, "-p", package)
+def built(*packages, release):
+    """Builds programs of the workspace, and returns the folder that they are in. Without `release` they share what `cargo test` builds."""
+    named = [word for package in packages for word in ("-p", package)]
+    ran("cargo", "build", "-q", "--profile", "release" if release else "test", *named)
     return TARGET / ("release" if release else "debug")
 
 

@@ -8,6 +8,7 @@ by name. The last line is 'N passed, M failed, K skipped'. pytest is Debian's `p
 """
 
 import lzma
+import os
 import shutil
 import sys
 import tempfile
@@ -20,6 +21,14 @@ ROOT = Path(__file__).resolve().parent.parent
 SHOWN = 40
 sys.dont_write_bytecode = True
 sys.path.insert(0, str(ROOT / "tools"))
+# What cargo builds in its profiles dev and test. No test needs debug information, or what is kept for a next build. Where the profile dev
+# unwinds, as tests must, what a program and its tests have in common is built once. A release is built as users build it.
+os.environ |= {
+    "CARGO_INCREMENTAL": "0",
+    "CARGO_PROFILE_DEV_DEBUG": "0",
+    "CARGO_PROFILE_DEV_LTO": "off",
+    "CARGO_PROFILE_DEV_PANIC": "unwind",
+}
 
 from artifacts import archive_of  # noqa: E402
 

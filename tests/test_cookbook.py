@@ -12,6 +12,7 @@ from importlib.util import module_from_spec, spec_from_loader
 from typing import NamedTuple
 
 import pytest
+from cargo import built
 from conftest import ROOT
 
 from c_library import PROVED, Missing, plain_library, ran
@@ -127,8 +128,7 @@ def program():
     """The environment in which `gen1` is on the path."""
     if not shutil.which("cargo"):
         pytest.skip("there is no cargo; `make setup` installs it")
-    ran("cargo", "build", "-q", "-p", "gen1-cli", "--target-dir", ROOT / "target")
-    return {**os.environ, "PATH": f"{ROOT / 'target' / 'debug'}:{os.environ['PATH']}"}
+    return {**os.environ, "PATH": f"{built('gen1-cli', release=False)}:{os.environ['PATH']}"}
 
 
 def test_python(tmp_path, needs, archive, program, compared):

@@ -11,9 +11,8 @@ import sys
 from concurrent.futures import ThreadPoolExecutor
 
 import pytest
-from cargo import TARGET, want_cargo
+from cargo import TARGET, built, want_cargo
 from log_lines import codes
-from processes import ran
 
 PROGRAMS = ("bot", "referee", "room")
 RECORDED = ("battles", "first_path", "limit", "rules")
@@ -50,9 +49,9 @@ with open(sys.argv[1], "wb", 0) as kept:
 
 @pytest.fixture(scope="module", autouse=True)
 def programs():
-    """The release builds of the programs."""
+    """The release builds of the programs. Built with gen1-cli, they share its gen1, which has more features."""
     want_cargo()
-    ran("cargo", "build", "-q", "--release", *(word for name in PROGRAMS for word in ("-p", name)))
+    built(*PROGRAMS, "gen1-cli", release=True)
 
 
 def run(program, *words):

@@ -12,8 +12,10 @@ ten lines, commands and files together.
 The door `documents` is the blocks of the other documents that say `run: start`. They are run in a clone. A block under `prints` further
 down must be what the last of them printed, and one under `prints in the end` its end.
 
-Doors with the same first block share a folder, where that block is run once; others run side by side. They share what cargo compiles, and
-it optimizes less than a user's would. tools/setup installs what a door lacks. Commands, comparisons and counts of lines are counted.
+Doors with the same first block share a folder, where that block is run once; others run side by side. What cargo compiles for a folder of
+a clone's target/ is kept in that folder of target/ here. The files of a clone get the times of those that it was made of, so cargo compiles
+only what was not compiled of the same sources before. tools/setup installs what a door lacks. Commands, comparisons and counts of lines are
+counted.
 """
 
 import os
@@ -43,12 +45,15 @@ NEEDS = {
     "documents": ["plain"],
 }
 MOST_LINES = 10
-# A door is about commands, not about the speed of what they build; other parts of the gate test that.
-QUICK_BUILDS = {
-    "CARGO_PROFILE_RELEASE_LTO": "off",
-    "CARGO_PROFILE_RELEASE_OPT_LEVEL": "0",
-    "CARGO_PROFILE_RELEASE_CODEGEN_UNITS": "16",
-}
+# The cargo of the doors, which keeps what it compiles for target/, or a folder of it, in TARGET.
+KEEPING = """#!/bin/sh
+folder= before=
+for word; do
+    [ "$before" != --target-dir ] || folder=${word##*/target}
+    before=$word
+done
+CARGO_BUILD_BUILD_DIR='TARGET'$folder exec 'CARGO' "$@"
+"""
 # In the gate a door gets the processors that the proofs leave.
 SECONDS = 5400
 PRINTS = ("prints", "prints in the end")
@@ -187,7 +192,7 @@ class Visit:
             done = subprocess.run(
                 ["bash", "-o", "pipefail", "-c", words],
                 cwd=self.at,
-                env=environment() | {"CARGO_BUILD_BUILD_DIR": str(self.room.parent / "build")},
+                env=environment() | {"PATH": f"{self.room.parent / 'bin'}:{os.environ['PATH']}"},
                 capture_output=True,
                 text=True,
                 errors="replace",
@@ -200,6 +205,8 @@ class Visit:
             tail = "\n".join((done.stdout + done.stderr).strip().splitlines()[-20:])
             raise Failed(f"{line}: status {done.returncode}\n{tail}")
         self.at = Path(left.read_text().strip())
+        if line.startswith("git clone"):
+            give_times(self.room.parent / "repository", self.room / "gen1")
         self.tell(f"{line.partition('  #')[0].strip()} ({time.monotonic() - since:.1f} s)")
         return done.stdout
 
@@ -242,7 +249,22 @@ def environment():
     """The environment, without variables that would change what commands build or print."""
     taken = ("GEN1_LIBRARY", "PYTHONPATH", "CARGO_TARGET_DIR", "VIRTUAL_ENV", "GIT_DIR", "GIT_WORK_TREE")
     of_make = ("MAKEFLAGS", "MAKELEVEL", "MFLAGS")
-    return {key: value for key, value in os.environ.items() if key not in taken + of_make} | QUICK_BUILDS
+    return {key: value for key, value in os.environ.items() if key not in taken + of_make}
+
+
+def write_cargo(to):
+    """Writes the cargo of the doors, where there is one."""
+    to.mkdir()
+    if cargo := shutil.which("cargo"):
+        (to / "cargo").write_text(KEEPING.replace("TARGET", str(ROOT / "target")).replace("CARGO'", f"{cargo}'"))
+        (to / "cargo").chmod(0o755)
+
+
+def give_times(of, to):
+    """Gives the files of a clone the times of the files that it was made of."""
+    for path in of.rglob("*"):
+        if path.is_file() and (copy := to / path.relative_to(of)).is_file():
+            shutil.copystat(path, copy)
 
 
 @cache
@@ -309,6 +331,7 @@ def visits(request, tmp_path_factory):
     asked = [item.callspec.params["name"] for item in request.session.items if "visits" in item.fixturenames]
     room = tmp_path_factory.mktemp("start", numbered=False)
     copy_to(room / "repository")
+    write_cargo(room / "bin")
     with ThreadPoolExecutor() as pool:
         found = {}
         for number, group in enumerate(groups([DOORS[name] for name in asked if not lacks(DOORS[name])])):
