@@ -1,9 +1,12 @@
 """Accessibility: names for a screen reader, contrast, use by keys alone, a phone's width, a quick start, and no network."""
+import json
 import re
+from functools import cache
 
 from selenium.webdriver.common.keys import Keys
 
-from checks.browser import SIZES
+from checks.browser import PLACES, SIZES, go
+from checks.layout import OVERLAPS, SPACED
 
 # Roles of elements that a person uses or that have a value; each needs a name.
 NAMED = {
@@ -23,32 +26,6 @@ NAMED = {
     "tabpanel",
     "textbox",
 }
-PLACES = {
-    "home": ("#home", ""),
-    "replay": (
-        "#replay",
-        "document.getElementById('replay-example').click(); for (let i = 0; i < 8; i++) document.getElementById('replay-forward').click();"
-        "document.getElementById('replay-whole').open = true",
-    ),
-    "teams": ("#play", ""),
-    "play": ("#play", "document.getElementById('play-start').click()"),
-    "card": (
-        "#play",
-        "document.getElementById('play-start').click(); document.querySelector('#play-field .stand:not(.far) .party button').click()",
-    ),
-    "calculator": (
-        "#calculator",
-        "document.querySelectorAll('#panel-calculator details').forEach((it) => (it.open = true));"
-        "document.querySelectorAll('#calc-results .move')[1].click()",
-    ),
-    "carried": (
-        "#play",
-        "document.getElementById('play-start').click(); document.getElementById('play-calculate').click()",
-    ),
-    "builder": ("#teams", "document.querySelectorAll('#panel-teams details').forEach((it) => (it.open = true))"),
-    "message": ("#replay?b=zzzz", ""),
-}
-
 # Colours, and their contrast.
 COLOURS = """
 const parsed = (color) => (color.match(/[\\d.]+/g) ?? []).map(Number);
@@ -136,13 +113,13 @@ BROKEN = """
 const FOCUSED = 'button:not(:disabled), input, select, textarea, summary, a[href], [tabindex="0"]';
 const ROLES = ['alert', 'button', 'combobox', 'dialog', 'group', 'img', 'listbox', 'log', 'meter', 'option', 'status', 'tab', 'tablist', 'tabpanel', 'timer'];
 const all = (selector) => [...document.querySelectorAll(selector)].filter((it) => it.checkVisibility());
-return (%s).map((it) => it.outerHTML.slice(0, 160));
+const shown = (them) => them.map((it) => it.outerHTML.slice(0, 160));
 """
+BROKEN += "return {%s};" % ", ".join(f"{json.dumps(rule)}: shown({broken})" for rule, broken in RULES.items())
 
 
-def nodes_of(browser):
-    """The nodes of the accessibility tree that are not ignored, with their properties, and the name of the group that they are in."""
-    found = browser.driver.execute_cdp_cmd("Accessibility.getFullAXTree", {})["nodes"]
+def nodes_of(found):
+    """The nodes of an accessibility tree that are not ignored, with their properties, and the name of the group that they are in."""
     by_id = {node["nodeId"]: node for node in found}
     word = lambda node, key: str(node.get(key, {}).get("value", ""))
 
@@ -213,31 +190,83 @@ return [...document.querySelectorAll('button, input, select, textarea, summary, 
 """
 
 
-def go(browser, name):
-    address, script = PLACES[name]
-    browser.open(address)
-    browser.run(script)
+# What has to be true of the elements of a part. Items are in lists, and rows in tables; an explicit role would override that of a list.
+WHOLE = """
+const all = (selector) => [...document.querySelectorAll(selector)];
+return {
+  'no id is there twice': all('[id]').length === new Set(all('[id]').map((it) => it.id)).size,
+  'items are in lists': all('li').every((it) => it.parentElement.matches('ol:not([role]), ul:not([role])')),
+  'references lead to elements': all('[aria-controls], [aria-labelledby]').every((it) =>
+    document.getElementById(it.getAttribute('aria-controls') ?? it.getAttribute('aria-labelledby'))),
+  'labels are those of fields': all('label').every((it) => it.control),
+};
+"""
+
+
+def broken_rules(browser, nodes):
+    """The rules that do not hold, with what breaks them."""
+    found = browser.run(BROKEN) | {rule: broken(nodes) for rule, broken in TREE_RULES.items()}
+    return {rule: them for rule, them in found.items() if them}
+
+
+@cache
+def found_in_parts(browser):
+    """What is in each part, by its size and name: several checks look at what one visit finds."""
+    found = {}
+    for size in SIZES:
+        for name in PLACES:
+            browser.look(*SIZES[size], "light")
+            go(browser, name)
+            nodes = nodes_of(browser.nodes())
+            found[size, name] = {
+                "nodes": nodes,
+                "whole": browser.run(WHOLE),
+                "broken": broken_rules(browser, nodes),
+                "width": browser.run("return document.documentElement.scrollWidth"),
+            }
+            if size == "wide":
+                found[size, name]["contrast"] = contrast_of(browser)
+                found[size, name]["spaced"] = browser.run(SPACED), *browser.run(OVERLAPS, "main")
+                browser.run("document.adoptedStyleSheets = []")
+            # A card closes when the focus leaves it.
+            if name in {"wide": set(PLACES) - {"card"}, "narrow": {"replay", "play", "calculator", "builder"}}[size]:
+                found[size, name]["keys"] = reached_by_keys(browser)
+    browser.look(*SIZES["wide"], "light")
+    return found
+
+
+def contrast_of(browser):
+    """The texts and fields with too little contrast, in each theme."""
+    found = {}
+    for scheme in ("light", "dark"):
+        browser.look(*SIZES["wide"], scheme)
+        found[scheme] = browser.run(CONTRAST), browser.run(EDGES)
+    browser.look(*SIZES["wide"], "light")
+    return found
+
+
+def reached_by_keys(browser):
+    """How many elements the keys have to reach, how many they reach, and what is wrong with the focus."""
+    browser.run("document.activeElement.blur(); window.scrollTo(0, 0)")
+    wanted, reached, faults = browser.run(REACHED), set(), set()
+    for _ in range(wanted + 12):
+        browser.press(Keys.TAB)
+        mark, fault = browser.run(FOCUS)
+        if mark in reached and len(reached) >= wanted:
+            break
+        reached.add(mark)
+        faults.add(fault)
+    return wanted, len(reached - {""}), faults - {""}
 
 
 def all_has_a_name(browser):
     for name in PLACES:
-        go(browser, name)
-        nodes = browser.tree()
+        found = found_in_parts(browser)["wide", name]
+        nodes = [(it["role"], it["name"]) for it in found["nodes"]]
         assert len(nodes) > 20, nodes
-        lacking = [role for role, text in nodes if role in NAMED and not text.strip() and role != "group"]
+        lacking = [role for role, text in nodes if role in NAMED and not text and role != "group"]
         assert not lacking, (name, lacking)
-        assert browser.run(
-            "const ids = [...document.querySelectorAll('[id]')].map((it) => it.id); return ids.length === new Set(ids).size"
-        )
-        # Items are in lists, and rows in tables; an explicit role would override that of a list.
-        assert browser.run(
-            "return [...document.querySelectorAll('li')].every((it) => it.parentElement.matches('ol:not([role]), ul:not([role])'))"
-        ), name
-        assert browser.run(
-            "return [...document.querySelectorAll('[aria-controls], [aria-labelledby]')].every((it) =>"
-            "document.getElementById(it.getAttribute('aria-controls') ?? it.getAttribute('aria-labelledby')))"
-        ), name
-        assert browser.run("return [...document.querySelectorAll('label')].every((it) => it.control)"), name
+        assert len(found["whole"]) == 4 and all(found["whole"].values()), (name, found["whole"])
 
 
 def lines_are_read_out(browser):
@@ -248,23 +277,15 @@ def lines_are_read_out(browser):
         browser.run("return document.getElementById('replay-lines').closest('[role=log]').getAttribute('aria-live')")
         == "polite"
     )
-    go(browser, "message")
-    assert "alert" in [role for role, _ in browser.tree()]
+    assert "alert" in [it["role"] for it in found_in_parts(browser)["wide", "message"]["nodes"]]
 
 
 def the_rules_hold(browser):
     """Each rule in each part, in a wide and in a narrow page."""
     assert len(RULES) + len(TREE_RULES) >= 30
-    failed = {}
-    for size in SIZES:
-        browser.look(*SIZES[size], "light")
-        for name in PLACES:
-            go(browser, name)
-            found = {rule: browser.run(BROKEN % broken) for rule, broken in RULES.items()}
-            nodes = nodes_of(browser)
-            found |= {rule: broken(nodes) for rule, broken in TREE_RULES.items()}
-            failed |= {(size, name, rule): them for rule, them in found.items() if them}
-    browser.look(*SIZES["wide"], "light")
+    found = found_in_parts(browser)
+    assert set(found) == {(size, name) for size in SIZES for name in PLACES}
+    failed = {place: it["broken"] for place, it in found.items() if it["broken"]}
     assert not failed, failed
 
 
@@ -315,15 +336,12 @@ def a_battle_is_played_by_keys_alone(browser):
 
 
 def contrast_is_enough(browser):
-    for scheme in ("light", "dark"):
-        browser.look(*SIZES["wide"], scheme)
-        for name in PLACES:
-            go(browser, name)
-            found = browser.run(CONTRAST)
+    for name in PLACES:
+        contrast = found_in_parts(browser)["wide", name]["contrast"]
+        assert set(contrast) == {"light", "dark"}
+        for scheme, (found, edges) in contrast.items():
             assert found["count"] > 10 and not found["low"], (scheme, name, found)
-            edges = browser.run(EDGES)
             assert not edges, (scheme, name, edges)
-    browser.look(*SIZES["wide"], "light")
 
 
 def a_theme_can_be_chosen(browser):
@@ -341,33 +359,24 @@ def a_theme_can_be_chosen(browser):
 
 def keys_alone_reach_all(browser):
     """The focus is marked wherever it is, and nothing covers it."""
-    # A card closes when the focus leaves it.
-    places = [("wide", name) for name in PLACES if name != "card"]
-    for size, name in places + [("narrow", name) for name in ("replay", "play", "calculator", "builder")]:
-        browser.look(*SIZES[size], "light")
-        go(browser, name)
-        browser.run("document.activeElement.blur(); window.scrollTo(0, 0)")
-        wanted, reached, faults = browser.run(REACHED), set(), set()
-        for _ in range(wanted + 12):
-            browser.press(Keys.TAB)
-            mark, fault = browser.run(FOCUS)
-            if mark in reached and len(reached) >= wanted:
-                break
-            reached.add(mark)
-            faults.add(fault)
-        reached.discard("")
-        assert len(reached) >= wanted, (name, len(reached), wanted)
-        assert faults <= {""}, (size, name, faults)
-    browser.look(*SIZES["wide"], "light")
+    walks = {place: it["keys"] for place, it in found_in_parts(browser).items() if "keys" in it}
+    assert len(walks) == len(PLACES) - 1 + 4
+    for place, (wanted, reached, faults) in walks.items():
+        assert reached >= wanted, (place, reached, wanted)
+        assert not faults, (place, faults)
+
+
+def texts_may_be_spaced(browser):
+    """With the spaces that a person may set, no text overlaps another or is wider than the page."""
+    for name in PLACES:
+        width, count, pairs = found_in_parts(browser)["wide", name]["spaced"]
+        assert count > 5 and not pairs and width <= SIZES["wide"][0], (name, pairs, width)
 
 
 def a_phone_is_wide_enough(browser):
     for name in PLACES:
-        browser.look(*SIZES["narrow"], "light")
-        go(browser, name)
-        width = browser.run("return document.documentElement.scrollWidth")
+        width = found_in_parts(browser)["narrow", name]["width"]
         assert width <= SIZES["narrow"][0], (name, width)
-    browser.look(*SIZES["wide"], "light")
 
 
 def it_is_painted_within_a_second(browser):
@@ -425,6 +434,7 @@ CHECKS = [
     contrast_is_enough,
     a_theme_can_be_chosen,
     keys_alone_reach_all,
+    texts_may_be_spaced,
     a_phone_is_wide_enough,
     it_is_painted_within_a_second,
 ]

@@ -4,6 +4,7 @@ import time
 from pathlib import Path
 
 from selenium import webdriver
+from selenium.common.exceptions import JavascriptException, WebDriverException
 from selenium.webdriver.common.action_chains import ActionChains
 from selenium.webdriver.chrome.service import Service
 from selenium.webdriver.common.by import By
@@ -12,6 +13,68 @@ from checks.cases import lines_in
 
 # The width and height of a desktop's and of a phone's screen.
 SIZES = {"wide": (1280, 800), "narrow": (390, 844)}
+# Places in the page: the address of each, and a script that goes there from it.
+PLACES = {
+    "home": ("#home", ""),
+    "replay": (
+        "#replay",
+        "document.getElementById('replay-example').click(); for (let i = 0; i < 8; i++) document.getElementById('replay-forward').click();"
+        "document.getElementById('replay-whole').open = true",
+    ),
+    "teams": ("#play", ""),
+    "play": ("#play", "document.getElementById('play-start').click()"),
+    "card": (
+        "#play",
+        "document.getElementById('play-start').click(); document.querySelector('#play-field .stand:not(.far) .party button').click()",
+    ),
+    "calculator": (
+        "#calculator",
+        "document.querySelectorAll('#panel-calculator details').forEach((it) => (it.open = true));"
+        "document.querySelectorAll('#calc-results .move')[1].click()",
+    ),
+    "carried": (
+        "#play",
+        "document.getElementById('play-start').click(); document.getElementById('play-calculate').click()",
+    ),
+    "builder": ("#teams", "document.querySelectorAll('#panel-teams details').forEach((it) => (it.open = true))"),
+    "message": ("#replay?b=zzzz", ""),
+}
+# Calls the body of a function with arguments; an element that it returns is a true value.
+CALL = """
+(async () => {
+  const found = await (async function () { %s
+  }).apply(window, %s);
+  return found instanceof Node ? true : found;
+})()
+"""
+# Waits in the page until a script returns a true value, or some milliseconds are over; returns the last value.
+WAIT = """
+const holds = () => { %s };
+const end = performance.now() + %d;
+return new Promise((done, fail) => {
+  const look = () => {
+    try {
+      const found = holds();
+      if (found || performance.now() > end) done(found); else setTimeout(look, 15);
+    } catch (fault) { fail(fault); }
+  };
+  look();
+});
+"""
+# Brings an element into view; returns the place to press, or why a person could not press it there.
+PLACE = """
+const it = document.querySelector(arguments[0]);
+if (!it) return 'it is not there';
+it.scrollIntoViewIfNeeded();
+const box = it.getClientRects()[0];
+if (!box || !it.checkVisibility({visibilityProperty: true})) return 'it is not shown';
+const middle = (from, to, most) => (Math.max(0, from) + Math.min(most, to)) / 2;
+const [x, y] = [middle(box.left, box.right, innerWidth), middle(box.top, box.bottom, innerHeight)];
+const top = document.elementFromPoint(x, y);
+return it.contains(top) ? [x, y] : `it is covered by ${top?.outerHTML.slice(0, 200)}`;
+"""
+# What the driver says where the page was left while a script waited in it.
+LEFT = ("navigated", "destroyed", "collected", "Cannot find")
 
 
 class Browser:
@@ -30,6 +93,8 @@ class Browser:
         ):
             options.add_argument(word)
         options.binary_location = "/usr/bin/chromium"
+        # The checks themselves wait for what they need.
+        options.page_load_strategy = "none"
         options.set_capability("goog:loggingPrefs", {"browser": "ALL", "performance": "ALL"})
         self.driver = webdriver.Chrome(service=Service("/usr/bin/chromedriver"), options=options)
         self.driver.execute_cdp_cmd("Browser.setDownloadBehavior", {"behavior": "allow", "downloadPath": str(folder)})
@@ -39,24 +104,50 @@ class Browser:
     def close(self):
         self.driver.quit()
 
-    def open(self, address="#replay", page=None):
-        """Reloads the page at an address, and waits until it is ready."""
-        self.gather()
+    def open(self, address="#replay", page=None, first=None):
+        """Loads the page anew at an address, and waits until it is ready. The script `first` runs before those of the page."""
+        if first:
+            given = {"source": f"if (location.protocol !== 'about:') {{ {first} }}"}
+            made = self.driver.execute_cdp_cmd("Page.addScriptToEvaluateOnNewDocument", given)
+        self.leave()
         self.driver.get("about:blank")
         self.driver.get((page or self.page) + address)
-        self.wait("return document.documentElement.dataset.ready === 'true'", 60)
+        self.is_ready()
+        if first:
+            self.driver.execute_cdp_cmd("Page.removeScriptToEvaluateOnNewDocument", made)
+
+    def leave(self):
+        """Takes the mark from a page, so that the next page that is ready is another one."""
+        self.run("delete document.documentElement?.dataset.ready")
+
+    def is_ready(self):
+        self.wait("return document.documentElement?.dataset.ready === 'true'", 60)
+
+    def again(self):
+        """Loads the page anew as a person does."""
+        self.leave()
+        self.driver.refresh()
+        self.is_ready()
 
     def run(self, script, *words):
-        return self.driver.execute_script(script, *words)
+        """Runs the body of a function with these arguments, and returns its value, for which it waits if it is a promise."""
+        asked = {"expression": CALL % (script, json.dumps(words)), "returnByValue": True, "awaitPromise": True}
+        told = self.driver.execute_cdp_cmd("Runtime.evaluate", asked)
+        if fault := told.get("exceptionDetails"):
+            raise JavascriptException(fault.get("exception", {}).get("description", fault["text"]))
+        return told["result"].get("value")
 
     def wait(self, script, seconds=15):
-        """Waits until a script returns a true value, and returns it."""
+        """Waits in the page until a script returns a true value, and returns it."""
         end = time.monotonic() + seconds
-        while time.monotonic() < end:
-            answer = self.run(script)
-            if answer:
-                return answer
-            time.sleep(0.02)
+        while (left := end - time.monotonic()) > 0:
+            try:
+                if answer := self.run(WAIT % (script, 1000 * min(left, 5))):
+                    return answer
+            except WebDriverException as fault:
+                if not any(word in str(fault) for word in LEFT):
+                    raise
+                time.sleep(0.02)
         raise AssertionError(f"after {seconds} seconds still not: {script}")
 
     def find(self, selector):
@@ -64,8 +155,18 @@ class Browser:
 
     def click(self, selector):
         """Clicks on an element, and waits until the page has read a long battle."""
-        self.find(selector).click()
+        place = self.run(PLACE, selector)
+        assert not isinstance(place, str), f"{selector}: {place}"
+        for kind in ("mouseMoved", "mousePressed", "mouseReleased"):
+            self.point(*place, kind)
         self.wait("return !('busy' in document.documentElement.dataset)", 60)
+
+    def point(self, x, y, kind="mouseMoved"):
+        """Moves the pointer to a place, or presses or releases its button there."""
+        button = {} if kind == "mouseMoved" else {"button": "left", "clickCount": 1}
+        held = int(kind == "mousePressed")
+        event = {"type": kind, "x": x, "y": y, "buttons": held, **button}
+        self.driver.execute_cdp_cmd("Input.dispatchMouseEvent", event)
 
     def tap(self, selector):
         """Touches an element."""
@@ -156,11 +257,14 @@ class Browser:
             },
         )
 
+    def nodes(self):
+        """The nodes of the accessibility tree."""
+        return self.driver.execute_cdp_cmd("Accessibility.getFullAXTree", {})["nodes"]
+
     def tree(self):
         """The nodes of the accessibility tree that are not ignored, as (role, name)."""
-        nodes = self.driver.execute_cdp_cmd("Accessibility.getFullAXTree", {})["nodes"]
         value = lambda node, key: node.get(key, {}).get("value", "")
-        return [(value(node, "role"), value(node, "name")) for node in nodes if not node.get("ignored")]
+        return [(value(node, "role"), value(node, "name")) for node in self.nodes() if not node.get("ignored")]
 
     def gather(self):
         """Keeps the console messages and requests so far."""
@@ -169,3 +273,9 @@ class Browser:
             message = json.loads(entry["message"])["message"]
             if message["method"] == "Network.requestWillBeSent":
                 self.requested.append(message["params"]["request"]["url"])
+
+
+def go(browser, name):
+    address, script = PLACES[name]
+    browser.open(address)
+    browser.run(script)

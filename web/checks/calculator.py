@@ -58,6 +58,17 @@ return [...document.querySelectorAll(`#calc-results-${arguments[0]} tbody tr`)].
 }));
 """
 
+# Opens an address, and returns what is wrong with it. A route with the same values as before does nothing, so that a check cannot read older results.
+SHOWN = """
+const results = document.getElementById('calc-results'), end = performance.now() + 15000;
+results.replaceChildren();
+location.hash = arguments[0];
+while (!results.querySelector('table')) {
+  if (performance.now() > end) return 'there are no results';
+  await new Promise((done) => setTimeout(done));
+}
+return document.getElementById('calc-fault').textContent;
+"""
 # Chooses the moves of side 1 one after the other, and returns the line of each.
 LINES = """
 return Object.fromEntries([...document.querySelectorAll('#calc-results-1 tbody tr')].map((row) => row.dataset.move).map((move) => {
@@ -94,13 +105,15 @@ def standing_bytes(member, state):
 def show(browser, one, two, extra=0):
     """Opens the address of two members, each with its state."""
     code = base64.urlsafe_b64encode(standing_bytes(*one) + standing_bytes(*two) + bytes([extra])).decode().rstrip("=")
-    # A route with the same values as before does nothing, so that a check cannot read older results.
-    browser.run(
-        "document.getElementById('calc-results').replaceChildren(); location.hash = arguments[0]",
-        f"#calculator?c={code}",
-    )
-    browser.wait("return document.querySelector('#calc-results table')")
-    assert not browser.text("#calc-fault"), browser.text("#calc-fault")
+    fault = browser.run(SHOWN, f"#calculator?c={code}")
+    assert fault == "", fault
+
+
+def at_calculator(browser):
+    """Loads the calculator, unless an earlier check has left it: `show` replaces all of its input."""
+    there = "return location.hash.startsWith('#calculator') && document.documentElement.dataset.ready === 'true'"
+    if not browser.run(there):
+        browser.open("#calculator")
 
 
 def press(browser, side, name):
@@ -109,12 +122,12 @@ def press(browser, side, name):
     )
 
 
+# Chooses a move of a side.
+CHOSEN = "document.querySelector(`#calc-results-${arguments[0]} tr[data-move='${arguments[1]}'] button`).click();"
+
+
 def choose(browser, move, side=1):
-    browser.run(
-        "document.querySelector(`#calc-results-${arguments[0]} tr[data-move='${arguments[1]}'] button`).click()",
-        side,
-        move,
-    )
+    browser.run(CHOSEN, side, move)
 
 
 def damage_of(browser, move, side=1):
@@ -136,8 +149,10 @@ def span(least, most):
 
 def lists_of(browser, move):
     """The numbers of a move at each factor, usual and critical."""
-    choose(browser, move)
-    return [text.partition(": ")[2].split() for text in browser.words("#calc-numbers p")][:2]
+    texts = browser.run(
+        CHOSEN + "return [...document.querySelectorAll('#calc-numbers p')].map((it) => it.textContent)", 1, move
+    )
+    return [text.partition(": ")[2].split() for text in texts][:2]
 
 
 def recorded_calculations_come_out(browser):
@@ -339,7 +354,7 @@ def chances_of_a_knock_out_and_fixed_damage_are_shown(browser):
 
 def what_the_user_pays_is_shown(browser):
     """docs/MECHANICS.md, "Recoil, drain and explosion": a quarter or a half of the damage, which the foe's HP cut."""
-    browser.open("#calculator")
+    at_calculator(browser)
     show(
         browser,
         (member_of("Tauros", "Take Down", "Mega Drain", "Explosion", "Hyper Beam"), FRESH),
@@ -354,7 +369,7 @@ def what_the_user_pays_is_shown(browser):
 
 
 def many_hits_are_totals(browser):
-    browser.open("#calculator")
+    at_calculator(browser)
     show(browser, (member_of("Tauros", "Fury Attack", "Double Kick"), FRESH), (member_of("Tauros", "Body Slam"), FRESH))
     for move, fewest, highest in (("Fury Attack", 2, 5), ("Double Kick", 2, 2)):
         each = [int(number) for number in lists_of(browser, move)[0]]
@@ -364,7 +379,7 @@ def many_hits_are_totals(browser):
 
 
 def a_move_that_is_there_twice_is_a_note(browser):
-    browser.open("#calculator")
+    at_calculator(browser)
     show(browser, (member_of("Gengar", "Hypnosis", "Explosion"), FRESH), (member_of("Snorlax", "Body Slam"), FRESH))
     browser.fill("#calc-member-1 [name=move-3]", "Explosion")
     assert browser.text("#calc-note") == "Side 1 has Explosion twice." and not browser.text("#calc-fault")
@@ -377,7 +392,7 @@ def a_move_that_is_there_twice_is_a_note(browser):
 
 def critical_hits_are_totals(browser):
     """Double Kick of Jolteon on Snorlax: (82 * 30 / 50 + 2) * 2 is 102, and at the least factor 86; twice."""
-    browser.open("#calculator")
+    at_calculator(browser)
     show(browser, (member_of("Jolteon", "Double Kick"), FRESH), (member_of("Snorlax", "Body Slam"), FRESH))
     assert (
         damage_of(browser, "Double Kick")[1] == "90–108 HP, 2 hits"
@@ -424,7 +439,7 @@ def an_address_is_a_calculation(browser):
 
 
 def an_older_address_keeps_its_further_move(browser):
-    browser.open("#calculator")
+    at_calculator(browser)
     show(
         browser,
         (member_of("Tauros", "Body Slam"), FRESH),
@@ -597,7 +612,7 @@ def bars_of(move):
 def the_plot_has_exact_chances(browser):
     if not browser.program:
         return
-    browser.open("#calculator")
+    at_calculator(browser)
     one, two = member_of("Jolteon", "Pin Missile", "Double Kick", "Thunder"), member_of("Snorlax", "Body Slam")
     show(browser, (one, FRESH), (two, FRESH))
     words = [browser.program, "calc", "--json", *state_words(1, one, FRESH), *state_words(2, two, FRESH)]

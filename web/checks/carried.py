@@ -84,8 +84,12 @@ FIGHT = "Chansey\n- Swords Dance\n- Double Kick\n- Ice Beam\n- Reflect"
 BURNS = "Chansey\n- Fire Blast\n- Splash\n- Substitute\n- Growl"
 
 
-def begin_fight(browser, seed, hands):
-    browser.open("#play")
+def begin_fight(browser, seed, hands, address="#play"):
+    """Begins a battle in a page that is loaded anew, or where there is no address, in the page as it is."""
+    if address:
+        browser.open(address)
+    else:
+        browser.run("document.getElementById('play-again').click()")
     for side, text in ((1, FIGHT), (2, BURNS)):
         browser.fill(f"#play-team-{side}", text)
         browser.fill(f"#play-who-{side}", "person")
@@ -109,8 +113,9 @@ def use(browser, *moves):
 def a_battle_comes_into_the_calculator_and_back(browser):
     """A burned Chansey's Swords Dance: its Attack is twice its own, without the half of a burn, which the calculator would count; so the damage is that of the battle."""
     draw = random.Random(77)
-    for _ in range(40):
-        begin_fight(browser, " ".join(str(draw.randrange(256)) for _ in range(10)), "open")
+    for number in range(40):
+        seed = " ".join(str(draw.randrange(256)) for _ in range(10))
+        begin_fight(browser, seed, "open", "" if number else "#play")
         use(browser, "Reflect", "Fire Blast")
         if "is burned" in browser.text("#play-lines"):
             break

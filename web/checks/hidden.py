@@ -4,7 +4,7 @@ import random
 import re
 
 from checks.cases import address_of, lines_in, names
-from checks.play import OFFERED, UPDATES
+from checks.play import SETTLED, choose_first
 from checks.replay import PARTIES
 from checks.tabs import COPIES
 
@@ -43,8 +43,9 @@ FOE_MOVES = (
     "Aurora Beam",
     "Stomp",
 )
-# The events in the log, and all that the page holds, at one moment.
+# At one moment: the events in the log, all that the page holds, the foe's side of the field, and how many choices are offered.
 SEEN = """
+const far = document.querySelector('#play-field .far').textContent;
 const form = [...document.querySelectorAll('#panel-play input, #panel-play textarea')].map((it) => it.value).join(' ');
 const shown = document.getElementById('panel-play').cloneNode(true);
 for (const it of shown.querySelectorAll('select')) it.remove();
@@ -54,7 +55,8 @@ const card = document.getElementById('play-card').cloneNode(true);
 for (const it of card.querySelectorAll('[data-part^="May know"]')) it.remove();
 document.dispatchEvent(new KeyboardEvent('keydown', {key: 'Escape'}));
 const codes = [...document.querySelectorAll('#play-lines [data-code]')].map((it) => it.dataset.code);
-return [codes, [shown.outerHTML, card.outerHTML, form, document.title, location.href, document.getElementById('messages').textContent, JSON.stringify(history.state), JSON.stringify(localStorage)].join(' ')];
+const offered = document.querySelectorAll('#play-choices-1 [data-choice]').length;
+return [codes, [shown.outerHTML, card.outerHTML, form, document.title, location.href, document.getElementById('messages').textContent, JSON.stringify(history.state), JSON.stringify(localStorage)].join(' '), far, offered];
 """
 
 
@@ -125,17 +127,27 @@ def test_exports(browser, asked, lines):
     assert [count for count, _ in browser.run(PARTIES)] == sizes
 
 
+def begin(browser, asked, is_loaded):
+    """Opens a battle by its address: in a page that is loaded anew, or in the page that has shown other battles."""
+    address = f"#play?b={address_of(asked, 1)}&p1=person&p2=random"
+    if is_loaded:
+        browser.open(address)
+        browser.run(COPIES)
+    else:
+        browser.run("location.hash = arguments[0]", address)
+    browser.wait(f"return location.hash === '#play?u=1' && {SETTLED}")
+
+
 def what_a_player_may_not_know_is_nowhere(browser):
     searched = 0
     for number in range(BATTLES):
         asked = planted(number)
-        browser.open(f"#play?b={address_of(asked, 1)}&p1=person&p2=random")
-        browser.wait("return location.hash === '#play?u=1'")
+        # After the exports a page shows one battle after the other, and must not show what it knew before.
+        begin(browser, asked, number <= EXPORTS)
         # The form's own sample team is not this battle's.
         browser.fill("#play-team-1", "")
-        browser.run(COPIES)
         for turn in range(TURNS):
-            codes, text = browser.run(SEEN)
+            codes, text, far, offered = browser.run(SEEN)
             lines = lines_in(codes)
             if lines[-1].startswith(("|win|", "|tie")):
                 # After the battle, everything is shown.
@@ -145,12 +157,10 @@ def what_a_player_may_not_know_is_nowhere(browser):
                 assert fact not in text, (number, turn, fact)
                 searched += 1
             foe_hp = re.findall(r"^\|(?:switch|-damage|-heal)\|p2a: .*?\|\d+/(\d+)", "\n".join(lines), re.M)
-            assert set(foe_hp) == {"48"} and not re.search(r"\d+/\d+", browser.text("#play-field .far")), foe_hp
-            if not browser.run(OFFERED % 1):
+            assert set(foe_hp) == {"48"} and not re.search(r"\d+/\d+", far), foe_hp
+            if not offered:
                 break
-            before = browser.run(UPDATES)
-            browser.click("#play-choices-1 [data-choice]")
-            browser.wait(f"{UPDATES} > {before}")
+            choose_first(browser)
         if number < EXPORTS and not browser.lines("#play-lines")[-1].startswith(("|win|", "|tie")):
             test_exports(browser, asked, browser.lines("#play-lines"))
     print(f"    {searched} searches for facts in {BATTLES} battles")

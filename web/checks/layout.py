@@ -1,6 +1,9 @@
 """Layout at twelve sizes: no text overlaps another or leaves its box, and nothing moves while a turn is shown. Boxes are compared, not pixels."""
-from checks.access import PLACES, go
+from selenium.webdriver.common.keys import Keys
+
 from checks.browser import SIZES as USUAL
+from checks.browser import go
+from checks.play import SETTLED, UPDATES
 
 SIZES = {
     "a small phone": (320, 568),
@@ -16,6 +19,10 @@ SIZES = {
     "a laptop": (1280, 720),
     "4K": (3840, 2160),
 }
+# A replay opens the details of a side by the width at which it is first drawn, so the page is loaded for each of these.
+NARROW, WIDE = ({name: size for name, size in SIZES.items() if (size[0] > 704) is wide} for wide in (False, True))
+# Waits until the page has its new size and has drawn it.
+DRAWN = "return new Promise((done) => requestAnimationFrame(() => requestAnimationFrame(() => setTimeout(done))))"
 # The texts of a part as boxes, one for each line. Those of a list that scrolls, and of what stays while others scroll, are left out.
 TEXTS = """
 const found = [];
@@ -88,21 +95,54 @@ INSIDE = [
     (".topbar > *", "#play-game"),
     (".member-card:not([hidden])", "html"),
 ]
-# The boxes of elements.
-BOXES = """
-return arguments[0].map((it) => [...document.querySelectorAll(it)].filter((one) => one.checkVisibility()).map((one) => one.getBoundingClientRect())
+# The boxes of elements, and those that differ from earlier ones.
+BOXED = """
+const boxes = (parts) => parts.map((it) => [...document.querySelectorAll(it)].filter((one) => one.checkVisibility()).map((one) => one.getBoundingClientRect())
   .map((box) => [box.left, box.top, box.width, box.height].map(Math.round).join(' ')));
+const changed = (parts, before) => boxes(parts).map((now, at) => [before[at], now]).filter(([one, two]) => String(one) !== String(two));
 """
+BOXES = BOXED + "return boxes(arguments[0]);"
 BUSY = "return document.querySelectorAll('[data-busy]').length > 0"
+# Looks at the boxes until the turn has been shown; returns how often, and what moved.
+MOVED = (
+    BOXED
+    + """
+const [parts, before] = arguments;
+return new Promise((done) => {
+  let during = 0;
+  const look = () => {
+    if (!document.querySelectorAll('[data-busy]').length) return done([during, []]);
+    const moved = changed(parts, before);
+    if (moved.length) return done([during, moved]);
+    during++;
+    setTimeout(look, 15);
+  };
+  look();
+});
+"""
+)
+# What has moved at each of twelve moments.
+MOVED_LATER = (
+    BOXED
+    + """
+const [parts, before] = arguments, found = [];
+for (let time = 0; time < 12; time++) {
+  found.push(changed(parts, before));
+  await new Promise((done) => setTimeout(done, 150));
+}
+return found;
+"""
+)
 # What must not move while a turn is shown: the field, its plates, the log, the choices; and in a replay the controls.
 FIXED = ["#play-field", "#play-field .plate", ".scroller", ".acts"]
 CHOICES = "#play-choices-1 [data-choice]"
 FIXED_REPLAY = ["#replay-field", "#replay-field .plate", ".watch-lines .lines", ".steps button", "#replay-slider"]
-# What a person may set for reading (WCAG 2.2, 1.4.12).
+# What a person may set for reading (WCAG 2.2, 1.4.12); returns how wide the page then is.
 SPACED = """
 const style = new CSSStyleSheet();
 style.replaceSync('* { line-height: 1.5 !important; letter-spacing: .12em !important; word-spacing: .16em !important } p { margin-bottom: 2em !important }');
 document.adoptedStyleSheets = [style];
+return document.documentElement.scrollWidth;
 """
 # Members with long names and many states.
 LONG = (
@@ -122,6 +162,16 @@ def start(browser, team=LONG):
     browser.click("#play-start")
 
 
+def at_sizes(browser, sizes=SIZES, motion="reduce"):
+    """Gives the page each size in turn, and the name of the size. The pointer is on nothing that opens."""
+    browser.point(0, 0)
+    for name, size in sizes.items():
+        browser.look(*size, "light", motion)
+        browser.run(DRAWN)
+        yield name
+    browser.look(*USUAL["wide"], "light")
+
+
 def test_boxes(browser, part, size):
     count, pairs = browser.run(OVERLAPS, part)
     assert count > 5 and not pairs, (size, part, pairs)
@@ -133,129 +183,119 @@ def test_boxes(browser, part, size):
     assert width[0] <= width[1], (size, part, width)
 
 
+def choose_first(browser):
+    """Presses the first choice, and returns whether there was one."""
+    before = browser.run(UPDATES)
+    pressed = "const it = document.querySelector('#play-choices-1 [data-choice]'); it?.click(); return Boolean(it)"
+    return browser.run(pressed) and browser.wait(f"{UPDATES} > {before} && {SETTLED}")
+
+
 def nothing_overlaps_in_a_battle(browser):
-    for name, size in SIZES.items():
-        browser.look(*size, "light")
-        start(browser)
-        test_boxes(browser, "#panel-play", name)
-        for _ in range(3):
-            before = browser.run("return Number(document.getElementById('play-game').dataset.updates)")
-            if not browser.run(
-                "const it = document.querySelector('#play-choices-1 [data-choice]'); it?.click(); return Boolean(it)"
-            ):
-                break
-            browser.wait(f"return Number(document.getElementById('play-game').dataset.updates) > {before}")
+    start(browser)
+    for turn in range(4):
+        if turn and not choose_first(browser):
+            break
+        for name in at_sizes(browser):
             test_boxes(browser, "#panel-play", name)
+    for name in at_sizes(browser):
         browser.run("document.querySelector('#play-field .far .party button').click()")
         assert browser.run("return document.getElementById('play-card').checkVisibility()"), name
         test_boxes(browser, "#play-card", name)
-    browser.look(*USUAL["wide"], "light")
+        browser.press(Keys.ESCAPE)
+        assert not browser.run("return document.getElementById('play-card').checkVisibility()"), name
+
+
+# Whether the hint leaves the screen, and for each button whether the hint covers it.
+COVERED = """
+const hint = document.getElementById('play-hinted').getBoundingClientRect();
+return [hint.top < 0 || hint.right > innerWidth, ...[...document.querySelectorAll('[data-choice]')].map((it) => it.getBoundingClientRect())
+  .map((it) => it.left < hint.right && hint.left < it.right && it.top < hint.bottom && hint.top < it.bottom)];
+"""
 
 
 def a_hint_moves_no_choice(browser):
     """It is on the screen, and covers no button."""
-    for name, size in SIZES.items():
-        browser.look(*size, "light")
-        start(browser)
-        before = browser.run(BOXES, [CHOICES])
-        browser.run("document.getElementById('play-hint').click()")
-        browser.wait("return document.querySelectorAll('#play-hinted li').length", 60)
+    start(browser)
+    before = {name: browser.run(BOXES, [CHOICES]) for name in at_sizes(browser)}
+    browser.run("document.getElementById('play-hint').click()")
+    browser.wait("return document.querySelectorAll('#play-hinted li').length", 60)
+    for name in at_sizes(browser):
         test_boxes(browser, "#play-hinted", name)
-        assert browser.run(BOXES, [CHOICES]) == before, name
-        covered = browser.run(
-            "const hint = document.getElementById('play-hinted').getBoundingClientRect();"
-            "return [hint.top < 0 || hint.right > innerWidth, ...[...document.querySelectorAll('[data-choice]')].map((it) => it.getBoundingClientRect())"
-            ".map((it) => it.left < hint.right && hint.left < it.right && it.top < hint.bottom && hint.top < it.bottom)]"
-        )
+        assert browser.run(BOXES, [CHOICES]) == before[name], name
+        covered = browser.run(COVERED)
         assert len(covered) > 2 and not any(covered), (name, covered)
-        browser.run("document.getElementById('play-hint').click()")
+    browser.run("document.getElementById('play-hint').click()")
+    for name in at_sizes(browser):
         assert not browser.run("return document.getElementById('play-hinted').checkVisibility()"), name
-    browser.look(*USUAL["wide"], "light")
 
 
 def nothing_overlaps_at_the_end(browser):
     """The buttons after a battle, whose last members faint."""
-    for name, size in SIZES.items():
-        browser.look(*size, "light")
-        start(browser, team="Electrode\n- Explosion")
-        browser.run("document.querySelector('#play-choices-1 [data-choice]').click()")
-        browser.wait("return document.getElementById('play-end-watch') !== null")
+    start(browser, team="Electrode\n- Explosion")
+    browser.run("document.querySelector('#play-choices-1 [data-choice]').click()")
+    browser.wait("return document.getElementById('play-end-watch') !== null")
+    for name in at_sizes(browser):
         test_boxes(browser, "#panel-play", name)
-    browser.look(*USUAL["wide"], "light")
 
 
 def nothing_overlaps_in_the_other_parts(browser):
-    for name, size in SIZES.items():
-        browser.look(*size, "light")
-        for part, panel in (
-            ("home", "home"),
-            ("replay", "replay"),
-            ("teams", "play"),
-            ("calculator", "calculator"),
-            ("carried", "calculator"),
-            ("builder", "teams"),
-        ):
-            go(browser, part)
+    for part, panel, sizes in (
+        ("home", "home", SIZES),
+        ("replay", "replay", NARROW),
+        ("replay", "replay", WIDE),
+        ("teams", "play", SIZES),
+        ("calculator", "calculator", SIZES),
+        ("carried", "calculator", SIZES),
+        ("builder", "teams", SIZES),
+    ):
+        browser.look(*next(iter(sizes.values())), "light")
+        go(browser, part)
+        for name in at_sizes(browser, sizes):
             test_boxes(browser, f"#panel-{panel}", name)
-        test_boxes(browser, "header", name)
-        # A species with two types, and HP with three digits.
-        browser.open("#calculator")
-        browser.fill("#calc-member-1 [name=species]", "Exeggutor")
-        browser.fill("#calc-member-1 [name=hp]", "323")
+            if part == "builder":
+                test_boxes(browser, "header", name)
+    # A species with two types, and HP with three digits.
+    browser.open("#calculator")
+    browser.fill("#calc-member-1 [name=species]", "Exeggutor")
+    browser.fill("#calc-member-1 [name=hp]", "323")
+    for name in at_sizes(browser):
         test_boxes(browser, "#panel-calculator", name)
-    browser.look(*USUAL["wide"], "light")
 
 
 def nothing_moves_while_a_turn_is_shown(browser):
-    for name, size in SIZES.items():
-        browser.look(*size, "light", "no-preference")
-        start(browser)
-        browser.fill("#speed", "fast")
+    start(browser)
+    browser.fill("#speed", "fast")
+    for name in at_sizes(browser, motion="no-preference"):
+        browser.run("document.getElementById('play-again').click()")
+        browser.click("#play-start")
         before = browser.run(BOXES, [*FIXED, CHOICES])
         browser.run("document.querySelector('#play-choices-1 [data-choice]').click()")
         browser.wait(BUSY)
-        during = 0
-        while browser.run(BUSY):
-            now = browser.run(BOXES, [*FIXED, CHOICES])
-            moved = [pair for pair in zip(before, now) if pair[0] != pair[1]]
-            assert not moved or not browser.run(BUSY), (name, moved)
-            during += 1
+        during, moved = browser.run(MOVED, [*FIXED, CHOICES], before)
+        assert not moved, (name, moved)
         assert during > 2, (name, during)
         # Nor after it, when the other choices are there, which may have more lines.
         above = FIXED[:-1]
         now = browser.run(BOXES, above)
         assert now == before[: len(above)], (name, [pair for pair in zip(before, now) if pair[0] != pair[1]])
     browser.fill("#speed", "normal")
-    browser.look(*USUAL["wide"], "light")
 
 
 def nothing_moves_in_a_replay(browser):
-    for name, size in SIZES.items():
-        browser.look(*size, "light", "no-preference")
+    for sizes in (NARROW, WIDE):
+        browser.look(*next(iter(sizes.values())), "light", "no-preference")
         browser.open("#replay")
-        browser.run("document.getElementById('replay-example').click()")
         browser.fill("#replay-speed", "fast")
-        before = browser.run(BOXES, FIXED_REPLAY)
-        browser.run("document.getElementById('replay-play').click()")
-        for _ in range(12):
-            now = browser.run(BOXES, FIXED_REPLAY)
-            assert now == before, (name, [pair for pair in zip(before, now) if pair[0] != pair[1]])
-            browser.run("return new Promise((done) => setTimeout(done, 150))")
-        assert browser.run("return Number(document.getElementById('replay-slider').value)") > 1, name
-        browser.run("document.getElementById('replay-play').click()")
+        for name in at_sizes(browser, sizes, "no-preference"):
+            browser.run("document.getElementById('replay-example').click()")
+            browser.wait("return document.getElementById('replay-slider').value === '1'")
+            before = browser.run(BOXES, FIXED_REPLAY)
+            browser.run("document.getElementById('replay-play').click()")
+            for moved in browser.run(MOVED_LATER, FIXED_REPLAY, before):
+                assert not moved, (name, moved)
+            assert browser.run("return Number(document.getElementById('replay-slider').value)") > 1, name
+            browser.run("document.getElementById('replay-play').click()")
     browser.fill("#replay-speed", "normal")
-    browser.look(*USUAL["wide"], "light")
-
-
-def texts_may_be_spaced(browser):
-    """With the spaces that a person may set, no text overlaps another or is wider than the page."""
-    browser.look(*USUAL["wide"], "light")
-    for name in PLACES:
-        go(browser, name)
-        browser.run(SPACED)
-        count, pairs = browser.run(OVERLAPS, "main")
-        width = browser.run("return document.documentElement.scrollWidth")
-        assert count > 5 and not pairs and width <= USUAL["wide"][0], (name, pairs, width)
 
 
 CHECKS = [
@@ -265,5 +305,4 @@ CHECKS = [
     nothing_overlaps_in_the_other_parts,
     nothing_moves_while_a_turn_is_shown,
     nothing_moves_in_a_replay,
-    texts_may_be_spaced,
 ]

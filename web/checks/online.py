@@ -8,7 +8,7 @@ from pathlib import Path
 from selenium.webdriver.common.keys import Keys
 
 from checks import layout
-from checks.access import BROKEN, CONTRAST, EDGES, NAMED, RULES, TREE_RULES, nodes_of
+from checks.access import CONTRAST, EDGES, NAMED, broken_rules, nodes_of
 from checks.browser import SIZES, Browser
 
 ROOT = Path(__file__).resolve().parents[2]
@@ -28,9 +28,7 @@ class Person(Browser):
 
     def come(self, address="#online"):
         """Opens the page as a stranger."""
-        self.open("#home")
-        self.run("localStorage.removeItem('token')")
-        self.open(address)
+        self.open(address, first="localStorage.removeItem('token')")
 
     def enter(self, name, address="#online", password="", button="#online-enter"):
         self.come(address)
@@ -378,10 +376,9 @@ def all_can_use_it(club):
         for size, scheme in (("wide", "light"), ("wide", "dark"), ("narrow", "light")):
             ann.look(*SIZES[size], scheme)
             go(club, screen)
-            lacking = [it for it, text in ann.tree() if it in NAMED and not text.strip() and it != "group"]
-            broken = {rule: found for rule, it in RULES.items() if (found := ann.run(BROKEN % it))}
-            nodes = nodes_of(ann)
-            broken |= {rule: found for rule, it in TREE_RULES.items() if (found := it(nodes))}
+            nodes = nodes_of(ann.nodes())
+            lacking = [it["role"] for it in nodes if it["role"] in NAMED - {"group"} and not it["name"]]
+            broken = broken_rules(ann, nodes)
             contrast = ann.run(CONTRAST)["low"] + ann.run(EDGES)
             width = ann.run("return document.documentElement.scrollWidth")
             assert not lacking and not broken and not contrast, (screen, size, scheme, lacking, broken, contrast)

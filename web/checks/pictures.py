@@ -1,8 +1,7 @@
 """The pictures of the page that the documents show (docs/pictures): a part, a width, and light or dark."""
 import base64
 
-from checks.access import go
-from checks.browser import SIZES
+from checks.browser import SIZES, go
 
 PICTURES = (
     ("home", "wide", "light"),

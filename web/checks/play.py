@@ -12,6 +12,8 @@ from checks.cases import address_of, cases, lines_in, lines_of, traces
 from checks.replay import battle
 
 UPDATES = "return Number(document.getElementById('play-game').dataset.updates)"
+# Whether a position is shown as a whole: there are choices, or the battle is over.
+SETTLED = "(document.querySelector('.choices:not([hidden]) [data-choice]') !== null || !document.getElementById('play-rematch').hidden)"
 # A worker that returns the second choice of each of these pairs: the next one for each question.
 RECORDED = """
 const left = arguments[0].map((pair) => pair[1]).slice(1);
@@ -105,11 +107,9 @@ def battles_against_the_computer_go_on(browser):
         browser.fill("#play-seed", "1 2 3 4 5 6 7 8 9 10")
         browser.click("#play-start")
         for press in range(1, 6):
-            before = browser.run(UPDATES)
             if not browser.run(OFFERED % 1):
                 break
-            browser.click("#play-choices-1 [data-choice]")
-            browser.wait(f"{UPDATES} > {before}")
+            choose_first(browser)
         assert press > 3 and browser.run("return window.began"), (foe, press)
         assert "Turn" in browser.text("#play-now") and not browser.notice()
 
@@ -204,9 +204,8 @@ def choose_first(browser, side=1):
     """Presses the first choice of a side, and waits for the next choices or the end; returns whether the battle continues."""
     before = browser.run(UPDATES)
     browser.click(f"#play-choices-{side} [data-choice]")
-    choices = f"document.querySelectorAll('#play-choices-{side} [data-choice]').length"
-    browser.wait(f"{UPDATES} > {before} && ({choices} > 0 || !document.getElementById('play-rematch').hidden)")
-    return browser.run(f"return {choices}")
+    browser.wait(f"{UPDATES} > {before} && {SETTLED}")
+    return browser.run(f"return document.querySelectorAll('#play-choices-{side} [data-choice]').length")
 
 
 def told_to(side, lines):
@@ -238,7 +237,7 @@ def play_covered(browser, asked, press):
             continue
         press(mine)
         updates += 1
-        browser.wait(f"{UPDATES} >= {updates}")
+        browser.wait(f"{UPDATES} >= {updates} && {SETTLED}")
     return browser.lines("#play-lines")
 
 
@@ -323,7 +322,7 @@ def a_member_is_in_the_middle_of_its_move(browser):
     for choice in (17, 18):
         before = browser.run(UPDATES)
         browser.click(f"#play-choices-1 [data-choice='{choice}']")
-        browser.wait(f"{UPDATES} > {before}")
+        browser.wait(f"{UPDATES} > {before} && {SETTLED}")
     assert browser.text("#play-choices-1 .to-move strong") == "Continue Dig"
     assert (
         browser.run("return document.querySelector('#play-field .side-1 > .figure').className")
@@ -423,8 +422,7 @@ def a_battle_lasts_as_long_as_its_tab(browser):
     browser.click("#play-return")
     assert browser.lines("#play-lines") == lines
     browser.wait("return location.hash === '#play?u=2'")
-    browser.driver.refresh()
-    browser.wait("return document.documentElement.dataset.ready === 'true'")
+    browser.again()
     assert browser.lines("#play-lines") == lines and browser.run(OFFERED % 1)
 
 
@@ -605,7 +603,7 @@ def play_scripted(browser, one, two, pairs, seed):
 def choose(browser, choice):
     before = browser.run(UPDATES)
     browser.click(f"#play-choices-1 [data-choice='{choice}']")
-    browser.wait(f"{UPDATES} > {before}")
+    browser.wait(f"{UPDATES} > {before} && {SETTLED}")
 
 
 def a_move_that_must_fail_says_so(browser):

@@ -21,9 +21,7 @@ TAUROS = "Tauros\n- Body Slam\n- Hyper Beam\n- Blizzard\n- Earthquake\n"
 
 def fresh(browser, address="#teams"):
     """Opens the builder in a browser that has kept no team."""
-    browser.open()
-    browser.run("localStorage.removeItem('teams')")
-    browser.open(address)
+    browser.open(address, first="localStorage.removeItem('teams')")
 
 
 def read(browser, text):
