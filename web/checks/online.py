@@ -19,6 +19,11 @@ ASKED = SHOWN + " && document.querySelector('.choices:not([hidden]):not([data-bu
 ADDRESS = "return location.hash.includes('r=') && location.hash"
 OVER = "return /has won|have won|tie|draw/.test(document.getElementById('play-now').textContent)"
 CHOICES = ".choices:not([hidden]):not([data-busy]) [data-choice]"
+# Presses one of the choices, by a number from 0 to 1; returns whether there was one.
+CHOOSE = (
+    f"const found = [...document.querySelectorAll('{CHOICES}')];"
+    "found[Math.floor(arguments[0] * found.length)]?.click(); return found.length > 0"
+)
 UPDATED = "return Number(document.getElementById('play-game').dataset.updates)"
 STRIP = "return document.getElementById('online-strip').textContent"
 
@@ -46,10 +51,7 @@ class Person(Browser):
 
     def choose(self, draw):
         """Presses one of the offered choices; returns whether there was one."""
-        count = self.run(f"return document.querySelectorAll('{CHOICES}').length")
-        return count and self.run(
-            f"document.querySelectorAll('{CHOICES}')[{draw.randrange(count)}].click(); return true"
-        )
+        return self.run(CHOOSE, draw.random())
 
     @property
     def updates(self):
@@ -90,7 +92,7 @@ def play(persons, draw, is_done, most=120):
     while not is_done():
         assert time.monotonic() < end, [person.text("#play-now") + person.notice() for person in persons]
         if not any([person.choose(draw) for person in persons]):
-            time.sleep(0.02)
+            time.sleep(0.05)
 
 
 def two_persons_play_to_the_end_and_a_third_watches(club):
@@ -373,9 +375,9 @@ def all_can_use_it(club):
     """Names, rules and contrast of each screen, in both themes, and on a phone."""
     ann = club.persons[0]
     for screen in ("login", "lobby", "battle"):
+        go(club, screen)
         for size, scheme in (("wide", "light"), ("wide", "dark"), ("narrow", "light")):
             ann.look(*SIZES[size], scheme)
-            go(club, screen)
             nodes = nodes_of(ann.nodes())
             lacking = [it["role"] for it in nodes if it["role"] in NAMED - {"group"} and not it["name"]]
             broken = broken_rules(ann, nodes)
@@ -383,10 +385,8 @@ def all_can_use_it(club):
             width = ann.run("return document.documentElement.scrollWidth")
             assert not lacking and not broken and not contrast, (screen, size, scheme, lacking, broken, contrast)
             assert width <= SIZES[size][0], (screen, size, width)
-        for name, size in layout.SIZES.items():
-            ann.look(*size, "light")
+        for name in layout.at_sizes(ann):
             layout.test_boxes(ann, "#panel-online", f"{screen}, {name}")
-    ann.look(*SIZES["wide"], "light")
 
 
 def the_file_stays_without_a_network(club):

@@ -35,11 +35,14 @@ def steps(browser):
     return lines_in(browser.run(codes))
 
 
-def shown(browser, content, name="battle.json"):
-    """Opens the page with a file."""
-    browser.open()
+def shown(browser, content, name="battle.json", is_loaded=True):
+    """Opens a file: in a page that is loaded anew, or in the page as it is."""
+    if is_loaded:
+        browser.open()
+    now = "document.getElementById('replay-now').textContent"
+    browser.run(f"{now} = ''")
     browser.file(name, content)
-    browser.wait("return !document.getElementById('replay-stage').hidden", 60)
+    browser.wait(f"return !document.getElementById('replay-stage').hidden && {now} !== ''", 60)
 
 
 def whole_is_written(browser):
@@ -80,8 +83,9 @@ def a_refused_pair_is_said_and_the_rest_is_shown(browser):
 
 
 def a_recorded_log_is_replayed(browser):
-    for case in [it for it in cases("print") if it["status"] == 0 and it["stdout"].startswith("|switch")][:6]:
-        shown(browser, bytes.fromhex(case["hex"]), "battle.log")
+    logs = [it for it in cases("print") if it["status"] == 0 and it["stdout"].startswith("|switch")][:6]
+    for number, case in enumerate(logs):
+        shown(browser, bytes.fromhex(case["hex"]), "battle.log", number == 0)
         assert steps(browser) == lines_of(case), case["name"]
 
 
