@@ -155,10 +155,17 @@ class Browser:
 
     def click(self, selector):
         """Clicks on an element, and waits until the page has read a long battle."""
-        place = self.run(PLACE, selector)
-        assert not isinstance(place, str), f"{selector}: {place}"
-        for kind in ("mouseMoved", "mousePressed", "mouseReleased"):
-            self.point(*place, kind)
+        place = None
+        for _ in range(20):
+            # What the page does meanwhile may move the element.
+            found = self.run(PLACE, selector)
+            assert not isinstance(found, str), f"{selector}: {found}"
+            if found == place:
+                break
+            place = found
+            self.point(*place)
+        self.point(*place, "mousePressed")
+        self.point(*place, "mouseReleased")
         self.wait("return !('busy' in document.documentElement.dataset)", 60)
 
     def point(self, x, y, kind="mouseMoved"):

@@ -361,9 +361,9 @@ def go(club, screen):
         return ann.come()
     ann.enter("Ann9")
     if screen == "lobby":
-        ann.click("#online-link")
-        ann.click("#online-search")
-        ann.wait("return document.querySelectorAll('#online-calls li').length === 2")
+        for count, button in enumerate(("#online-link", "#online-search"), 1):
+            ann.click(button)
+            ann.wait(f"return document.querySelectorAll('#online-calls li').length === {count}")
     if screen == "battle":
         ann.click("#online-computer")
         ann.wait(ASKED)
