@@ -71,6 +71,10 @@ if (!box || !it.checkVisibility({visibilityProperty: true})) return 'it is not s
 const middle = (from, to, most) => (Math.max(0, from) + Math.min(most, to)) / 2;
 const [x, y] = [middle(box.left, box.right, innerWidth), middle(box.top, box.bottom, innerHeight)];
 const top = document.elementFromPoint(x, y);
+document.removeEventListener('pointerdown', window.noted, true);
+window.landed = false;
+window.noted = (event) => { window.landed = it.contains(event.target); };
+document.addEventListener('pointerdown', window.noted, true);
 return it.contains(top) ? [x, y] : `it is covered by ${top?.outerHTML.slice(0, 200)}`;
 """
 # What the driver says where the page was left while a script waited in it.
@@ -159,18 +163,26 @@ class Browser:
 
         The pointer's events are those of the driver's own click, which however asks the page ten times as much: it costs 70 ms of
         processor time, and this 20 ms."""
+        for _ in range(3):
+            place = self.place(selector)
+            self.point(*place, "mousePressed")
+            self.point(*place, "mouseReleased")
+            landed = self.wait("return !('busy' in document.documentElement.dataset) && [window.landed]", 60)
+            if landed[0] is not False:
+                return
+        raise AssertionError(f"{selector}: it is not where it was when the pointer comes")
+
+    def place(self, selector):
+        """Moves the pointer to an element, and returns the place; what the page does meanwhile may move the element."""
         place = None
         for _ in range(20):
-            # What the page does meanwhile may move the element.
             found = self.run(PLACE, selector)
             assert not isinstance(found, str), f"{selector}: {found}"
             if found == place:
                 break
             place = found
             self.point(*place)
-        self.point(*place, "mousePressed")
-        self.point(*place, "mouseReleased")
-        self.wait("return !('busy' in document.documentElement.dataset)", 60)
+        return place
 
     def point(self, x, y, kind="mouseMoved"):
         """Moves the pointer to a place, or presses or releases its button there."""
