@@ -3,3 +3,5 @@ pub mod ThereAndBack
 -- A plain state that passes all tests is a battle.
 pub mod Passing
 pub mod PassingStates
+-- A battle passes all tests.
+pub mod BattlesPass

@@ -67,6 +67,36 @@ word_is n low = omega arith
 pub apart : (a b : ℕ) → not (a == b) ≡ true → a ≢ b
 apart a b e = grind (arith, nat_tests)
 
+-- Tests that pass, from what they say
+
+pub then_back : {E : Type 0} (a b : Result (Unit {0}) E) → a ≡ Ok tt → b ≡ Ok tt → (a ▸ b) ≡ Ok tt
+then_back a b e f = subst (λ a. (a ▸ b) ≡ Ok tt) (sym e) f
+
+pub at_back : (side place : ℕ) (t : Tested) → t ≡ Ok tt → fault_at side place t ≡ Ok tt
+at_back side place t e = ap (fault_at side place) e
+
+pub first_back : (tests : List Test) → AllPass tests → first_of tests ≡ Ok tt
+unfolding first_of
+first_back [] h = refl
+first_back (t ∷ ts) h = ap (λ (b : Bool). cond b (first_of ts) (Err t)) h.0 ∙ first_back ts h.1
+
+pub inside : (low high value : ℕ) → low ≤ value → value ≤ high → (nat_le low value && nat_le value high) ≡ true
+inside low high value below above = grind (arith, nat_tests)
+
+pub up_to : (high value : ℕ) → value ≤ high → (nat_le 0 value && nat_le value high) ≡ true
+up_to high value above = inside 0 high value (omega arith) above
+
+pub both_back : (a b : Bool) → a ≡ true → b ≡ true → (a && b) ≡ true
+both_back a b e f = rw (e, f) refl
+
+pub fits_back : (b : Bool) (low high value : ℕ) → CountFits b low high value → (nat_le (on b low) value && nat_le value (on b high)) ≡ true
+fits_back true low high value fit = inside low high value fit.0 fit.1
+fits_back false low high value fit = rw fit refl
+
+pub from_0_back : (b : Bool) (high value : ℕ) → CountFits b 0 high value → (nat_le 0 value && nat_le value (on b high)) ≡ true
+from_0_back true high value fit = inside 0 high value fit.0 fit.1
+from_0_back false high value fit = rw fit refl
+
 -- A member
 
 -- The tests of a member pass.
@@ -94,7 +124,7 @@ member_tests m least most rules e =
 
 -- Its status
 
-sleeps : (sleep : ℕ) → IsBetween 1 7 sleep → status_byte 1 sleep ≡ sleep
+pub sleeps : (sleep : ℕ) → IsBetween 1 7 sleep → status_byte 1 sleep ≡ sleep
 sleeps sleep range = let low = range.0 in let high = range.1 in grind (arith, nat_tests)
 
 status_ok : (kind sleep : ℕ) → kind ≤ 5 → CountFits (kind == 1) 1 7 sleep → status_fits (status_byte kind sleep) ≡ true
@@ -140,7 +170,7 @@ marks rules kind sleep mark fit set one =
 -- Its moves
 
 -- The number and the PP of a slot, after those of earlier slots.
-abbrev SlotIs : ℕ → ℕ → List ℕ → Type 0
+abbrev pub SlotIs : ℕ → ℕ → List ℕ → Type 0
 SlotIs id pp earlier =
     ((id ≡ 0) × (pp ≡ 0)) ⊎ ((may_be_known id ≡ true) × (pp ≤ 63) × All (λ before. (before ≢ 0) × (before ≢ id)) earlier)
 
@@ -347,16 +377,16 @@ members_ok s rules plain p =
 -- What is filled from the front, without gaps: places with members, slots with moves.
 
 -- Each number above 0 comes after one above 0.
-abbrev Follows : ℕ → List ℕ → Type 0
+abbrev pub Follows : ℕ → List ℕ → Type 0
 Follows before [] = Unit {0}
 Follows before (x ∷ xs) = (x ≢ 0 → before ≢ 0) × Follows x xs
 
 -- How many are above 0.
-abbrev filled_in : List ℕ → ℕ
+abbrev pub filled_in : List ℕ → ℕ
 filled_in [] = 0
 filled_in (x ∷ xs) = on (not (x == 0)) 1 + filled_in xs
 
-none_filled : (xs : List ℕ) → Follows 0 xs → filled_in xs ≡ 0
+pub none_filled : (xs : List ℕ) → Follows 0 xs → filled_in xs ≡ 0
 none_filled [] h = refl
 none_filled (zero ∷ xs) h = let rest = none_filled xs h.1 in omega arith
 none_filled (suc x ∷ xs) h = absurd (h.0 (λ is. omega arith) refl)
@@ -372,14 +402,14 @@ filled (suc x) (y ∷ ys) (suc k) h low = filled y ys k h.1 (let full = counted 
 
 -- The slot of a move
 
-abbrev ids : MemberState → List ℕ
+abbrev pub ids : MemberState → List ℕ
 ids m = slice_index m.moves 1 ∷ slice_index m.moves 2 ∷ slice_index m.moves 3 ∷ []
 
-ids_follow : (m : MemberState) → AllPass (move_tests m) → Follows (slice_index m.moves 0) (ids m)
+pub ids_follow : (m : MemberState) → AllPass (move_tests m) → Follows (slice_index m.moves 0) (ids m)
 ids_follow m p =
     (after _ _ (first_rule _ _ p.1.0), (after _ _ (first_rule _ _ p.1.1.0), (after _ _ (first_rule _ _ p.1.1.1.0), tt)))
 
-slot_byte : (m : MemberState) (slot : ℕ) → IsBetween 1 4 slot → slice_index (member_bytes m) (14 + slot) ≡ slice_index (slice_index m.moves 0 ∷ ids m) (slot - 1)
+pub slot_byte : (m : MemberState) (slot : ℕ) → IsBetween 1 4 slot → slice_index (member_bytes m) (14 + slot) ≡ slice_index (slice_index m.moves 0 ∷ ids m) (slot - 1)
 slot_byte m zero range = absurd (let low = range.0 in omega arith)
 slot_byte m (suc zero) range = refl
 slot_byte m (suc (suc zero)) range = refl
@@ -408,11 +438,11 @@ holds m p slot low high =
 
 -- The member that is out
 
-abbrev species : SideState → List ℕ
+abbrev pub species : SideState → List ℕ
 species s =
     (member_at 1 s).species ∷ (member_at 2 s).species ∷ (member_at 3 s).species ∷ (member_at 4 s).species ∷ (member_at 5 s).species ∷ []
 
-members_few : (s : SideState) → members_in s ≤ 6
+pub members_few : (s : SideState) → members_in s ≤ 6
 members_few s =
     let a = few_filled (is_there (member_at 0 s)) in
     let b = few_filled (is_there (member_at 1 s)) in
@@ -426,7 +456,7 @@ members_few s =
 follows : (before m : MemberState) (rules : ℕ) → MemberPasses m 0 (on (is_there before) 151) rules → m.species ≢ 0 → before.species ≢ 0
 follows before m rules p some none = some (none_after before.species m.species 151 (fits_from_0 _ 151 _ p.numbers.0) none)
 
-species_follow : (s : SideState) (rules : ℕ) → SidePasses s rules → Follows (member_at 0 s).species (species s)
+pub species_follow : (s : SideState) (rules : ℕ) → SidePasses s rules → Follows (member_at 0 s).species (species s)
 species_follow s rules p = (
   follows (member_at 0 s) (member_at 1 s) rules p.second,
   (
@@ -442,12 +472,12 @@ species_follow s rules p = (
 )
 
 -- What is known of the member at a place: its bytes are those of the place, its moves pass.
-record IsOut (s : SideState) (place : ℕ) : Type 0 where
+pub record IsOut (s : SideState) (place : ℕ) : Type 0 where
   pub bytes : place_bytes place (side_bytes s) ≡ member_bytes (member_at (place - 1) s)
   pub species : (member_at (place - 1) s).species ≡ slice_index ((member_at 0 s).species ∷ species s) (place - 1)
   pub moves : AllPass (move_tests (member_at (place - 1) s))
 
-is_out : (s : SideState) (rules : ℕ) → SidePasses s rules → (place : ℕ) → IsBetween 1 6 place → IsOut s place
+pub is_out : (s : SideState) (rules : ℕ) → SidePasses s rules → (place : ℕ) → IsBetween 1 6 place → IsOut s place
 unfolding side_after
 is_out s rules p zero range = absurd (let low = range.0 in omega arith)
 is_out s rules p (suc zero) range = record { bytes = refl; species = refl; moves = p.first.moves }
@@ -464,12 +494,12 @@ pub record OutPasses (s : SideState) : Type 0 where
   pub some : (member_out s).species ≢ 0
   pub moves : AllPass (move_tests (member_out s))
 
-at_place : (s : SideState) → s.active.place ≤ 6 → member_at (s.active.place - 1) s ≡ member_out s
+pub at_place : (s : SideState) → s.active.place ≤ 6 → member_at (s.active.place - 1) s ≡ member_out s
 at_place s high =
     let within : nat_le s.active.place 6 ≡ true = grind (arith, nat_tests) in
     ap (λ (b : Bool). member_at (cond b (s.active.place - 1) 0) s) (sym within)
 
-out_from : (s : SideState) (m : MemberState) → IsOut s s.active.place → member_at (s.active.place - 1) s ≡ m
+pub out_from : (s : SideState) (m : MemberState) → IsOut s s.active.place → member_at (s.active.place - 1) s ≡ m
     → slice_index ((member_at 0 s).species ∷ species s) (s.active.place - 1) ≢ 0
     → (place_bytes s.active.place (side_bytes s) ≡ member_bytes m) × (m.species ≢ 0) × AllPass (move_tests m)
 out_from s m out is some = (
@@ -490,10 +520,10 @@ out_passes s rules p range =
 
 -- Bits of the conditions
 
-long_is : (c : ℕ) → c < 4294967296 → low_byte c + 256 * high_byte c + 65536 * (low_byte (c / 65536) + 256 * high_byte (c / 65536)) ≡ c
+pub long_is : (c : ℕ) → c < 4294967296 → low_byte c + 256 * high_byte c + 65536 * (low_byte (c / 65536) + 256 * high_byte (c / 65536)) ≡ c
 long_is c low = omega arith
 
-bit_is : (a : ActiveState) → IsPlainActive a → (k : ℕ) → has a k ≡ bit_on k (active_bytes a)
+pub bit_is : (a : ActiveState) → IsPlainActive a → (k : ℕ) → has a k ≡ bit_on k (active_bytes a)
 bit_is a plain k = ap (λ (n : ℕ). bit_at n k == 1) (sym (long_is a.conditions plain.conditions))
 
 -- The moves that an active member uses
@@ -529,7 +559,7 @@ slot_move m (suc (suc (suc zero))) range = refl
 slot_move m (suc (suc (suc (suc zero)))) range = refl
 slot_move m (suc (suc (suc (suc (suc k))))) range = absurd (let high = range.1 in omega arith)
 
-effect_is : (m : MemberState) (slot : ℕ) → current_effect m slot ≡ effect_in (member_bytes m) slot
+pub effect_is : (m : MemberState) (slot : ℕ) → current_effect m slot ≡ effect_in (member_bytes m) slot
 effect_is m slot = ap effect_of_number (by (nat_le 1 slot && nat_le slot 4) refl)
   where
     by : (b : Bool) → (nat_le 1 slot && nat_le slot 4) ≡ b

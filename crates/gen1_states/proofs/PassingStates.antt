@@ -35,7 +35,7 @@ record Comes (whole divisor stat most : ℕ) : Type 0 where
   pub same : stat ≡ divided_times divisor times whole
 
 -- The first division instead of the last.
-divided_first : (divisor times whole : ℕ) → divided_times divisor (suc times) whole ≡ divided_times divisor times (max (whole / divisor) 1)
+pub divided_first : (divisor times whole : ℕ) → divided_times divisor (suc times) whole ≡ divided_times divisor times (max (whole / divisor) 1)
 divided_first divisor zero whole = omega arith
 divided_first divisor (suc times) whole = ap (λ (n : ℕ). max 1 (n / divisor)) (divided_first divisor times whole)
 
@@ -53,7 +53,7 @@ comes whole divisor stat (suc most) e = by (whole == stat) refl (comes (max (who
         record { times = suc c.times; few = (let few = c.few in omega arith); same = c.same ∙ sym (divided_first divisor c.times whole) }
 
 -- A stage up to 12 counts as it is.
-stage_is : (stage own : ℕ) → stage ≤ 12 → at_stage (min stage 12) own ≡ at_stage stage own
+pub stage_is : (stage own : ℕ) → stage ≤ 12 → at_stage (min stage 12) own ≡ at_stage stage own
 stage_is stage own low = let same : min stage 12 ≡ stage = omega arith in ap (λ (n : ℕ). at_stage n own) same
 
 pub same_value : (value due : ℕ) → (nat_le due value && nat_le value due) ≡ true → value ≡ due
@@ -80,7 +80,7 @@ stats_ok m a words plain stages p =
 
 -- At turn 0 no member is out
 
-no_bits : (a : ActiveState) → a.conditions ≡ 0 → (k : ℕ) → has a k ≡ (bit_at 0 k == 1)
+pub no_bits : (a : ActiveState) → a.conditions ≡ 0 → (k : ℕ) → has a k ≡ (bit_at 0 k == 1)
 no_bits a none k = ap (λ (n : ℕ). bit_at n k == 1) none
 
 pub zero_below : (value : ℕ) → (nat_le 0 value && nat_le value 0) ≡ true → value ≡ 0
@@ -236,12 +236,12 @@ header_ok b plain p =
 place_low : (place : ℕ) → cond (nat_le place 6) (place - 1) 0 < 6
 place_low place = grind (arith, nat_tests)
 
-out_plain : (s : SideState) → IsPlainSide s → IsPlainMember (member_out s)
+pub out_plain : (s : SideState) → IsPlainSide s → IsPlainMember (member_out s)
 out_plain s plain = plain.members (cond (nat_le s.active.place 6) (s.active.place - 1) 0) (place_low s.active.place)
 
 -- Whether members live
 
-lives_is : (m : MemberState) → IsPlainMember m → alive (member_bytes m) ≡ lives m
+pub lives_is : (m : MemberState) → IsPlainMember m → alive (member_bytes m) ≡ lives m
 lives_is m plain = ap (nat_lt 0) (word_is m.hp plain.hp)
 
 pub or_false : (b : Bool) → (b || false) ≡ b
@@ -252,7 +252,7 @@ any_six : {a b c d e f a' b' c' d' e' f' : Bool} → a ≡ a' → b ≡ b' → c
     → (a || (b || (c || (d || (e || (f || false)))))) ≡ (a' || (b' || (c' || (d' || (e' || f')))))
 any_six {f' = f'} ea eb ec ed ee ef = rw (ea, eb, ec, ed, ee, ef, or_false f') refl
 
-any_is : (s : SideState) → IsPlainSide s → any_alive (side_bytes s) ≡ any_lives s
+pub any_is : (s : SideState) → IsPlainSide s → any_alive (side_bytes s) ≡ any_lives s
 unfolding side_after
 any_is s plain =
     let at = λ (k : ℕ) (low : k < 6). lives_is (member_at k s) (plain.members k low) in
@@ -260,7 +260,7 @@ any_is s plain =
 
 -- Turn, outcome and requests
 
-record RequestsPass (b : BattleState) : Type 0 where
+pub record RequestsPass (b : BattleState) : Type 0 where
   pub outcome : (outcome_test b).passes ≡ true
   pub one : slice_index b.requests 0 ≡ (requests_due b).0
   pub two : slice_index b.requests 1 ≡ (requests_due b).1
@@ -289,7 +289,7 @@ requests_pass b e =
     }
 
 -- Nothing is asked for at turn 0, and once a battle is over.
-none_due : (b : BattleState) → (b.turn == 0 || not (b.outcome == 0)) ≡ true → requests_due b ≡ (0, 0)
+pub none_due : (b : BattleState) → (b.turn == 0 || not (b.outcome == 0)) ≡ true → requests_due b ≡ (0, 0)
 none_due b none = ap (λ (c : Bool). cond c (0, 0) (asked (lives (member_out (first_side b))) (lives (member_out (second_side b))))) none
 
 asks_none : (b : BattleState) → (b.turn == 0 || not (b.outcome == 0)) ≡ true → RequestsPass b → Asks (header_bytes b) 0 0
@@ -347,7 +347,7 @@ asked_ok b plain some true false first second turn = ((first, second), rw (word_
 asked_ok b plain some false false first second turn = ((first, second), rw (word_is b.turn plain.turn, word_is b.limit plain.limit) (before b some turn))
 
 -- The bytes of the member that is out show whether it lives.
-out_lives : (s : SideState) → IsPlainSide s → OutPasses s → alive (out_bytes (side_bytes s)) ≡ lives (member_out s)
+pub out_lives : (s : SideState) → IsPlainSide s → OutPasses s → alive (out_bytes (side_bytes s)) ≡ lives (member_out s)
 out_lives s plain out = ap alive out.bytes ∙ lives_is (member_out s) (out_plain s plain)
 
 -- The outcome fits which sides have a living member.
@@ -362,13 +362,13 @@ at_outcome : (b : BattleState) (n : ℕ) → b.outcome ≡ n
     → outcome_fits n (any_lives (first_side b)) (any_lives (second_side b)) (b.turn == b.limit) ≡ true
 at_outcome b n is e = subst (λ (n : ℕ). outcome_fits n (any_lives (first_side b)) (any_lives (second_side b)) (b.turn == b.limit) ≡ true) is e
 
-going_due : (b : BattleState) → (b.turn == 0) ≡ false → b.outcome ≡ 0
+pub going_due : (b : BattleState) → (b.turn == 0) ≡ false → b.outcome ≡ 0
     → requests_due b ≡ asked (lives (member_out (first_side b))) (lives (member_out (second_side b)))
 going_due b begun is =
     let none : (b.turn == 0 || not (b.outcome == 0)) ≡ false = rw (begun, is) refl in
     ap (λ (c : Bool). cond c (0, 0) (asked (lives (member_out (first_side b))) (lives (member_out (second_side b))))) none
 
-over_at : (b : BattleState) → (b.turn == 0) ≡ false → 1 ≤ b.outcome → (b.turn == 0 || not (b.outcome == 0)) ≡ true
+pub over_at : (b : BattleState) → (b.turn == 0) ≡ false → 1 ≤ b.outcome → (b.turn == 0 || not (b.outcome == 0)) ≡ true
 over_at b begun low = let over : (b.outcome == 0) ≡ false = grind (arith, nat_tests) in rw (begun, over) refl
 
 later_ok : (b : BattleState) → IsPlain b → 1 ≤ b.turn → 1 ≤ b.limit → OutPasses (first_side b) → OutPasses (second_side b) → RequestsPass b
@@ -411,7 +411,7 @@ requests_ok b plain limit out p = by b.turn refl
 -- The whole
 
 -- The tests of an active member and of its current stats pass, from turn 1 on or at turn 0.
-record ActivePasses (s : SideState) (begun : Bool) : Type 0 where
+pub record ActivePasses (s : SideState) (begun : Bool) : Type 0 where
   pub block : BlockPasses s begun
   pub stats : AllPass (stat_tests (member_out s) s.active begun)
 

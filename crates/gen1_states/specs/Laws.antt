@@ -1,5 +1,5 @@
 -- What holds for all plain states (docs/LAYOUT.md, "Plain states").
-use Rattle.std.specs.Prelude.{List, Ok, length, slice_index, ℕ, ◌<◌, ◌≡◌}
+use Rattle.std.specs.Prelude.{List, Ok, length, slice_index, ℕ, ◌<◌, ◌≡◌, ◌↔◌}
 use Rattle.gen1_machine.specs.State.{State}
 use Rattle.gen1_layout.specs.LoadingLaws.{AreBytes, IsBattle}
 use Rattle.gen1_layout.specs.Parts.{parts_of, Parts}
@@ -57,6 +57,6 @@ pub record IsPlain (b : BattleState) : Type 0 where
 abbrev pub ComesBack : Type 0
 ComesBack = (b : BattleState) (s : State) → IsPlain b → Stands (parts_of (bytes_of b)) s → state_of s ≡ b
 
--- A plain state that passes all tests of its fields is a battle.
+-- A plain state passes all tests of its fields exactly if it is a battle.
 abbrev pub TestedAreBattles : Type 0
-TestedAreBattles = (b : BattleState) → IsPlain b → AreBytes (bytes_of b) → tested b ≡ Ok tt → IsBattle (bytes_of b)
+TestedAreBattles = (b : BattleState) → IsPlain b → AreBytes (bytes_of b) → (tested b ≡ Ok tt) ↔ IsBattle (bytes_of b)
