@@ -13,8 +13,8 @@ ahead of need: a list of arguments asks for room once for all, and then argument
 nothing. Then come FILEs: one that exists, with another battle on standard input; a folder; one that may not be read; one that does not
 exist; an empty name; and a name that is not UTF-8. Each run counts.
 
-A row is a command line and an input, with the status and the bytes of both outputs. Families of rows are an input that is cut at each
-byte, and one in which each byte in turn is no text.
+A row is a command line and an input, with the status and the bytes of both outputs. Families of rows are the prefixes of an input, and an
+input in which each byte in turn is replaced by ff.
 """
 
 import os
@@ -423,7 +423,7 @@ WHOLE = {"run": two_turns("]}").encode(), "room": room_of(SUBMISSIONS).encode()}
 
 
 def row(words, given, status=0, out="", err=""):
-    """The case of some arguments, with spaces between them, and an input. A text stands for its bytes in UTF-8."""
+    """The case of some arguments, with spaces between them, and an input. A text is encoded as UTF-8."""
     given, out, err = (it if isinstance(it, bytes) else it.encode() for it in (given, out, err))
     return Case(words.split(" "), given, status, out, err)
 
@@ -454,7 +454,7 @@ def play(program, rows, checks, folder=None):
 
 @pytest.mark.parametrize("name", WHOLE)
 def test_input_that_is_cut(name, program, checks):
-    """Each front of an input is no JSON (docs/PROGRAM.md, "JSON, to the letter")."""
+    """No prefix of an input is JSON (docs/PROGRAM.md, "JSON, to the letter")."""
     whole = WHOLE[name]
     play(program, [no_json(name, whole[:end]) for end in range(len(whole))], checks)
 

@@ -64,7 +64,7 @@ const results = document.getElementById('calc-results'), end = performance.now()
 results.replaceChildren();
 location.hash = arguments[0];
 while (!results.querySelector('table')) {
-  if (performance.now() > end) return 'there are no results';
+  if (performance.now() > end) return 'no results';
   await new Promise((done) => setTimeout(done));
 }
 return document.getElementById('calc-fault').textContent;
