@@ -28,8 +28,7 @@ use Rattle.gen1_states.specs.Reading.{side_state, state_of, active_state, member
 use Rattle.gen1_states.specs.declared.plain.ActiveState.{ActiveState}
 use Rattle.gen1_states.specs.declared.plain.BattleState.{BattleState}
 use Rattle.gen1_states.specs.declared.plain.SideState.{SideState}
-use Rattle.gen1_states.proofs.Back.{comes_back}
-use Rattle.gen1_states.proofs.There.{not_zero}
+use Rattle.gen1_states.proofs.ThereAndBack.{comes_back, not_zero}
 use Rattle.std.proofs.lemmas.Bool.Decides.{eqb_tells, nat_tests}
 use Rattle.std.proofs.lemmas.List.{get_or_past}
 use Rattle.gen1_tables.specs.Moves.{struggle}

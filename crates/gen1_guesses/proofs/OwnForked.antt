@@ -44,7 +44,7 @@ use Rattle.gen1_states.specs.Reading.{active_state as state_of_active, member_st
 use Rattle.gen1_states.specs.declared.plain.ActiveState.{ActiveState}
 use Rattle.gen1_states.specs.declared.plain.MemberState.{MemberState}
 use Rattle.gen1_states.specs.declared.plain.SideState.{SideState}
-use Rattle.gen1_states.proofs.There.{not_zero, packs_of}
+use Rattle.gen1_states.proofs.ThereAndBack.{not_zero, packs_of}
 use Rattle.gen1_guesses.specs.Forks.{used_slot, member_at as place_in, own_member as own_state, own_members, seen_in, mark_of, sleep_of, turns_left, own_part}
 use Rattle.gen1_guesses.proofs.ForkedStates.{words, below_or, current_is, few_moves, past_six, Holds}
 
