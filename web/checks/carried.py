@@ -85,7 +85,7 @@ BURNS = "Chansey\n- Fire Blast\n- Splash\n- Substitute\n- Growl"
 
 
 def begin_fight(browser, seed, hands, address="#play"):
-    """Begins a battle in a page that is loaded anew, or where there is no address, in the page as it is."""
+    """Begins a battle in a page that is loaded at an address, or without one in the page as it is."""
     if address:
         browser.open(address)
     else:
